@@ -1,0 +1,4 @@
+pub mod Characters
+pub mod Moving
+pub mod Writing
+pub mod NameReading

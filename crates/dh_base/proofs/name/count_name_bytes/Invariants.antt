@@ -1,0 +1,8 @@
+use Rattle.std.proofs.Common.{◌≡◌, ◌≤◌, ◌+◌, drop}
+use Rattle.std.specs.List.{prefix_len}
+use Rattle.dh_base.specs.Names.{is_name_byte}
+use Rattle.dh_base.proofs.name.count_name_bytes.Given as goal
+
+abbrev pub invariant-loop-place : goal.invariant-loop-place
+invariant-loop-place l =
+    (l.place ≤ 16) × (l.place + prefix_len is_name_byte (drop l.place l.text) ≡ prefix_len is_name_byte l.text)

@@ -1,0 +1,10 @@
+pub mod Names
+pub mod NameRead
+pub mod NameShape
+pub mod Faults
+pub mod Outside
+pub mod Spelled
+pub mod Refusals
+pub mod Calls
+pub mod Memory
+pub mod BaseFaults

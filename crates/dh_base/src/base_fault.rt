@@ -1,0 +1,53 @@
+//! What is wrong with bytes that should be a value of this crate.
+
+use crate::refusal::{Field, FieldValue, Refusal, write_refusal};
+use std::fmt;
+
+/// What is wrong with bytes that should be a value of this crate.
+#[derive(Clone, Copy, Debug, PartialEq, Eq)]
+pub enum BaseFault {
+    /// No name stands there. `at` is the first place at which no name goes on.
+    BadName { at: u32 },
+}
+
+impl Refusal for BaseFault {
+    ghost use Rattle.dh_base.specs.BaseFaults.{base_fault_told, few_base_fields};
+
+    ghost told = { base_fault_told };
+
+    ghost few = { few_base_fields };
+
+    fn number(&self) -> u16 {
+        match self {
+            BaseFault::BadName { .. } => 2,
+        }
+    }
+
+    fn name(&self) -> &'static str {
+        match self {
+            BaseFault::BadName { .. } => "BadName",
+        }
+    }
+
+    fn field(&self, place: usize) -> Option<Field> {
+        match (self, place) {
+            (BaseFault::BadName { at }, 0) => Some(Field {
+                label: "at",
+                value: FieldValue::Number(u64::from(*at)),
+            }),
+            _ => None,
+        }
+    }
+}
+
+impl fmt::Display for BaseFault {
+    ghost use Rattle.std.specs.Prelude.{Some};
+    ghost use Rattle.dh_base.specs.Refusals.{told_text};
+    ghost use Rattle.dh_base.specs.BaseFaults.{base_fault_told};
+
+    ghost output = { λ fault. Some (told_text (base_fault_told fault)) };
+
+    fn fmt<W: fmt::Write>(&self, f: &mut fmt::Formatter<W>) -> fmt::Result {
+        write_refusal(self, f)
+    }
+}

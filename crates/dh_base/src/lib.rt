@@ -1,0 +1,38 @@
+//! What the other crates share: names, ids and outcomes; refusals, which tell a number, a name and
+//! fields; and the sources and sinks through which a program reads and writes bytes.
+//!
+//! [`Source`] and [`Sink`] say what any outside may do: give or take a piece of the bytes, or fail,
+//! which it counts. [`MemSource`] and [`MemSink`] are such outsides in memory, which fail the calls that
+//! a test tells them to. [`ReaderSource`] and [`WriterSink`] stand over the system's readers and writers.
+#![tactic(auto)]
+
+pub mod base_fault;
+pub mod calls;
+pub mod failure;
+pub mod id;
+pub mod list;
+pub mod mem_sink;
+pub mod mem_source;
+pub mod name;
+pub mod outcome;
+pub mod refusal;
+pub mod sink;
+pub mod source;
+pub mod standard;
+
+pub use base_fault::BaseFault;
+pub use calls::Calls;
+pub use failure::{Failed, NoMemory};
+pub use id::Id;
+pub use list::List;
+pub use mem_sink::MemSink;
+pub use mem_source::MemSource;
+pub use name::Name;
+pub use outcome::Outcome;
+pub use refusal::{Field, FieldValue, Refusal};
+pub use sink::Sink;
+pub use source::Source;
+pub use standard::{ReaderSource, WriterSink};
+
+#[cfg(test)]
+mod tests;
