@@ -1,0 +1,7 @@
+use Rattle.std.proofs.Common.{◌≡◌, take}
+use Rattle.std.specs.List.{sum_by}
+use Rattle.escrow_book.specs.History.{escrowed}
+use Rattle.escrow_book.proofs.book.Book.if_abort.Given as goal
+
+abbrev pub invariant-loop-entry : goal.invariant-loop-entry
+invariant-loop-entry l = l.sum ≡ sum_by (λ entry. escrowed l.deal l.party l.asset entry.change) (take l.entry-index l.entry-items)
