@@ -1,0 +1,10 @@
+pub mod Ids
+pub mod Below
+pub mod Pushed
+pub mod Counted
+pub mod Decided
+pub mod Owing
+pub mod Taken
+pub mod Lists
+pub mod Placed
+pub mod FirstDecisive

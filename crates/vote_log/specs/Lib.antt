@@ -1,0 +1,9 @@
+pub mod Entry
+pub mod Voting
+pub mod Deciding
+pub mod Places
+pub mod Owed
+pub mod LogFaults
+pub mod Admission
+pub mod Log
+pub mod Tallies
