@@ -1,0 +1,11 @@
+pub mod FirstLine
+pub mod Fronting
+pub mod NamesSame
+pub mod NameWords
+pub mod Opened
+pub mod Orders
+pub mod Parties
+pub mod PlainWords
+pub mod ScriptSpelling
+pub mod StatementReading
+pub mod WordReading

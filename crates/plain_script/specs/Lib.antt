@@ -1,0 +1,10 @@
+pub mod Answers
+pub mod Bound
+pub mod Fronts
+pub mod Kept
+pub mod Positions
+pub mod Reading
+pub mod RuleNames
+pub mod Rules
+pub mod Spelling
+pub mod Statements

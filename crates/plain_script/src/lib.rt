@@ -1,0 +1,42 @@
+//! Plain scripts as they are read. A plain script declares ledgers, opening rows and deals, and lists what happens to
+//! them, without signatures. Reading it answers the first line that breaks a rule, or what is declared and what happens,
+//! before any of it happens. The grammar, the rules and which line is refused are stated here, once.
+//!
+//! - `declaration`, `event`, `statement`, `numbered`: what a line says.
+//! - `keyword`, `keywords`, `statements`: reading it from the line's words.
+//! - `house`: what the lines so far have declared, and the rules of a declaration.
+//! - `place`, `reader`: the lines so far, and the rule that the next one breaks.
+//! - `script`: a whole script.
+//! - `rule`, `refused_line`, `halt`: why a script is refused, and how that is told.
+//! - `laws`: the grammar and the first refused line.
+#![tactic(auto)]
+
+pub mod declaration;
+pub mod event;
+pub mod halt;
+pub mod house;
+pub mod keyword;
+mod keywords;
+pub mod laws;
+pub mod numbered;
+pub mod place;
+mod reader;
+pub mod refused_line;
+pub mod rule;
+pub mod script;
+pub mod statement;
+mod statements;
+
+pub use declaration::Declaration;
+pub use event::Event;
+pub use halt::PlainHalt;
+pub use house::House;
+pub use numbered::Numbered;
+pub use place::Place;
+pub use refused_line::RefusedLine;
+pub use rule::ScriptRule;
+pub use script::{Script, read_script};
+pub use statement::Statement;
+
+#[cfg(test)]
+mod tests;

@@ -1,0 +1,186 @@
+//! What the lines so far say, line by line.
+
+ghost use Rattle.std.specs.Prelude.{◌≡◌, ◌<◌, ◌≤◌, ◌+◌, ◌-◌, ◌^◌, nat_le, [], Ok, Some, None, IfOk, IfNone, OnOk};
+ghost use Rattle.line_text.specs.Seen.{line_of};
+ghost use Rattle.plain_script.specs.Rules.{statement_rule, event_rule, said_rule, broken_if, lesser_rule};
+ghost use Rattle.plain_script.specs.declared.rule.ScriptRule.TheVariants.{TooMany};
+ghost use Rattle.plain_script.specs.Fronts.{front_of, rule_behind, stated, stated_all, happened, front_after};
+ghost use Rattle.plain_script.specs.Reading.{to_list};
+
+use crate::event::Event;
+use crate::house::House;
+use crate::numbered::Numbered;
+use crate::place::Place;
+use crate::rule::ScriptRule;
+use crate::statement::Statement;
+use crate::statements::statement;
+use dh_base::NoMemory;
+use line_text::TextLine;
+use line_text::text_line::is_passed_over;
+use std::alloc::Global;
+use std::marker::Model;
+
+/// The most lines of a script that may say something.
+const MOST_LINES: u32 = 20000;
+
+/// What the lines so far say. A contract sees it as the front of a script.
+#[derive(Drop)]
+pub struct Reader {
+    number: u32,
+    place: Place,
+    house: House,
+    events: Vec<Numbered>,
+}
+
+/// The limit of lines, where so many lines stand before one that says something.
+fn limit_rule(before: u32) -> Option<ScriptRule>
+    ensures { result ≡ broken_if (nat_le 20000 before) TooMany None }
+{
+    if before >= MOST_LINES {
+        Some(ScriptRule::TooMany)
+    } else {
+        None
+    }
+}
+
+/// Of two rules that a line may break, that of the lesser number.
+fn lesser_rule(rule: Option<ScriptRule>, other: Option<ScriptRule>) -> Option<ScriptRule>
+    ensures { result ≡ lesser_rule rule other }
+{
+    match (rule, other) {
+        (Some(rule), Some(other)) if other.number() < rule.number() => Some(other),
+        (Some(rule), _) => Some(rule),
+        (None, other) => other,
+    }
+}
+
+impl Model for Reader {
+    ghost use Rattle.plain_script.specs.Fronts.{Front};
+
+    ghost Value = { Front };
+
+    ghost view = { λ r. record { number = r.number; place = r.place; declarations = r.house; events = r.events.items } };
+}
+
+impl Reader {
+    /// No lines so far.
+    pub fn new(alloc: Global) -> Reader
+        ensures { result ≡ front_of [] }
+    {
+        Reader {
+            number: 0,
+            place: Place::Head,
+            house: House::new(alloc),
+            events: Vec::new(alloc),
+        }
+    }
+
+    /// How many lines there are so far.
+    pub fn number(&self) -> u32
+        ensures { result ≡ self.now.number }
+    {
+        self.number
+    }
+
+    /// Where the next line stands.
+    pub fn place(&self) -> Place
+        ensures { result ≡ self.now.place }
+    {
+        self.place
+    }
+
+    /// What was declared, and what happens.
+    pub fn into_parts(self) -> (House, Vec<Numbered>)
+        ensures declarations { result.0 ≡ self.declarations }
+        ensures events { result.1.items ≡ self.events }
+    {
+        let Reader { house, events, .. } = self;
+        (house, events)
+    }
+
+    /// Takes an event of the line, or answers the rule that it breaks.
+    fn happen(&mut self, event: Event) -> Result<Option<ScriptRule>, NoMemory>
+        requires { self.old.number < 2 ^ 32 - 1 }
+        ensures { IfOk result (λ rule. (rule ≡ event_rule self.old.declarations event)
+            × IfNone rule (self.new ≡ happened self.old event)
+            × (self.new.number ≡ self.old.number)) }
+    {
+        if !self.house.knows(&event) {
+            return Ok(Some(ScriptRule::UnknownName));
+        }
+        self.events.push(Numbered {
+            line: self.number + 1,
+            event,
+        })?;
+        Ok(None)
+    }
+
+    /// Takes what the line says, or answers the rule that it breaks where it stands.
+    fn state(&mut self, alloc: Global, statement: Statement) -> Result<Option<ScriptRule>, NoMemory>
+        requires { self.old.number < 2 ^ 32 - 1 }
+        ensures rule { IfOk result (λ rule. rule ≡ statement_rule self.old.place self.old.declarations statement) }
+        ensures stated { IfOk result (λ rule. IfNone rule (self.new ≡ stated self.old statement)) }
+        ensures number { OnOk result (self.new.number ≡ self.old.number) }
+    {
+        match (self.place, statement) {
+            (Place::Head, Statement::Plain) => {
+                self.place = Place::Declarations;
+                Ok(None)
+            }
+            (Place::Head, Statement::House) => Ok(Some(ScriptRule::NotBuilt)),
+            (Place::Declarations, Statement::Declare(declaration)) => {
+                self.house.declare(alloc, declaration)
+            }
+            (Place::Declarations, Statement::Begin) => {
+                self.place = Place::Events;
+                Ok(None)
+            }
+            (Place::Events, Statement::Happen(event)) => self.happen(event),
+            _ => Ok(Some(ScriptRule::BadLine)),
+        }
+    }
+
+    /// Takes what a line says that isn't passed over, or answers the rule that it breaks.
+    fn say(
+        &mut self,
+        alloc: Global,
+        said: Option<Statement>,
+    ) -> Result<Option<ScriptRule>, NoMemory>
+        requires { self.old.number < 2 ^ 32 - 1 }
+        ensures rule { IfOk result (λ rule. rule ≡ said_rule self.old.number self.old.place self.old.declarations said) }
+        ensures stated { IfOk result (λ rule. IfNone rule (self.new ≡ stated_all self.old (to_list said))) }
+        ensures number { OnOk result (self.new.number ≡ self.old.number) }
+    {
+        let Some(statement) = said else {
+            return Ok(Some(ScriptRule::BadLine));
+        };
+        let rule = self.state(alloc, statement)?;
+        let limit = limit_rule(self.number);
+        Ok(lesser_rule(rule, limit))
+    }
+
+    /// Takes the next line, or answers the rule that it breaks.
+    pub fn read_line(
+        &mut self,
+        alloc: Global,
+        line: &TextLine<'_>,
+    ) -> Result<Option<ScriptRule>, NoMemory>
+        requires { self.old.number < 2 ^ 32 - 1 }
+        ensures rule { IfOk result (λ rule. rule ≡ rule_behind self.old (line_of line.now)) }
+        ensures after { IfOk result (λ rule. IfNone rule (self.new ≡ front_after self.old (line_of line.now))) }
+        ensures number { OnOk result (self.new.number ≡ self.old.number + 1) }
+    {
+        if line.ended && is_passed_over(line.text) {
+            self.number += 1;
+            return Ok(None);
+        }
+        let said = if line.ended {
+            statement(alloc, line.text)?
+        } else {
+            None
+        };
+        let rule = self.say(alloc, said)?;
+        self.number += 1;
+        Ok(rule)
+    }
+}

@@ -1,0 +1,71 @@
+//! A plain script that was read.
+
+ghost use Rattle.std.specs.Prelude.{◌≡◌, ◌<◌, ◌≤◌, length, IfOk};
+ghost use Rattle.plain_script.specs.Reading.{reading_of};
+ghost use Rattle.plain_script.specs.Answers.{Answers, whole_of};
+
+use crate::halt::PlainHalt;
+use crate::house::House;
+use crate::numbered::Numbered;
+use crate::place::Place;
+use crate::reader::Reader;
+use crate::rule::ScriptRule;
+use dh_base::List;
+use line_text::Lines;
+use std::alloc::Global;
+
+/// The most bytes of a script.
+pub const MOST_BYTES: usize = 2097152;
+
+/// What a plain script declares, and what happens in it, in the order of its lines.
+#[derive(Drop)]
+pub struct Script {
+    pub house: House,
+    pub events: List<Numbered>,
+}
+
+/// The script of the lines that were read, or the want of a line `begin`.
+fn whole(reader: Reader) -> Result<Script, PlainHalt>
+    requires small { reader.number < 4294967295 }
+    requires few { length reader.events ≤ reader.number }
+    ensures value { Answers result (whole_of reader) }
+    ensures few { IfOk result (λ script. length script.events < 4294967295) }
+{
+    match reader.place() {
+        Place::Declarations => Err(PlainHalt::Refused {
+            line: reader.number() + 1,
+            rule: ScriptRule::BadLine,
+        }),
+        _ => {
+            let (house, events) = reader.into_parts();
+            Ok(Script {
+                house,
+                events: List::from_vec(events),
+            })
+        }
+    }
+}
+
+/// Reads a plain script: what it says, or the first line that breaks a rule before anything happens.
+pub fn read_script(alloc: Global, script: &[u8]) -> Result<Script, PlainHalt>
+    ensures value { Answers result (reading_of script.now) }
+    ensures few { IfOk result (λ told. length told.events < 4294967295) }
+{
+    if script.len() > MOST_BYTES {
+        return Err(PlainHalt::Refused {
+            line: 0,
+            rule: ScriptRule::TooLarge,
+        });
+    }
+    let mut reader = Reader::new(alloc);
+    let mut lines = Lines::new(script);
+    while let Some(line) = lines.next_line() {
+        if let Some(rule) = reader.read_line(alloc, &line)? {
+            return Err(PlainHalt::Refused {
+                line: reader.number(),
+                rule,
+            });
+        }
+    }
+    whole(reader)
+}
