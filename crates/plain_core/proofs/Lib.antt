@@ -1,0 +1,11 @@
+pub mod Acts
+pub mod Appending
+pub mod EachOnce
+pub mod GoodOpening
+pub mod Members
+pub mod Places
+pub mod PlainIds
+pub mod RowTexts
+pub mod Runs
+pub mod Unbroken
+pub mod Within

@@ -1,0 +1,9 @@
+pub mod Given
+pub mod Ids
+pub mod Ledgers
+pub mod Openings
+pub mod Rehearsed
+pub mod Replies
+pub mod Reports
+pub mod Starts
+pub mod Tables

@@ -1,0 +1,23 @@
+//! Plain scripts, where all ledgers read one log: what each event is answered, the final tables, and the
+//! whole report of a rehearsal.
+#![tactic(auto)]
+
+pub mod act_refusal;
+pub mod claim_refusal;
+mod ids;
+pub mod ledger;
+pub mod log_refusal;
+mod openings;
+mod order;
+pub mod rehearsal;
+pub mod reply;
+pub mod tables;
+mod voting;
+pub mod world;
+
+pub use act_refusal::ActRefusal;
+pub use claim_refusal::ClaimRefusal;
+pub use log_refusal::LogRefusal;
+pub use plain_script::{PlainHalt, ScriptRule};
+pub use rehearsal::rehearse_plain;
+pub use reply::Reply;

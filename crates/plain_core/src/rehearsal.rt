@@ -1,0 +1,104 @@
+//! Rehearsals of plain scripts.
+
+ghost use Rattle.std.specs.Prelude.{◌≡◌, ◌<◌, ◌++◌, [], length, string_bytes, OnOk};
+ghost use Rattle.plain_script.specs.Answers.{script_told};
+ghost use Rattle.plain_core.specs.Given.{AreWithin};
+ghost use Rattle.plain_core.specs.Starts.{started_world};
+ghost use Rattle.plain_core.specs.Reports.{reply_line, happened_of, run_from, report_of, report_behind, rehearsal_of};
+ghost use Rattle.plain_core.specs.Rehearsed.{answered_halt, Happens, GivesRun, GivesReport};
+ghost use Rattle.plain_script.specs.Reading.{reading_of};
+
+use crate::reply::Reply;
+use crate::tables::write_tables;
+use crate::world::World;
+use dh_base::{List, NoMemory};
+use plain_script::{House, Numbered, PlainHalt, Script, ScriptRule, read_script};
+use std::alloc::Global;
+use std::fmt::Write;
+
+/// Writes the line of an event: the number of its line in the script, and the reply.
+fn write_reply(line: u32, reply: &Reply, out: &mut String) -> Result<(), NoMemory>
+    ensures { OnOk result (string_bytes out.new ≡ string_bytes out.old ++ reply_line line reply.now) }
+{
+    write!(out, "{line} {reply}\n")?;
+    Ok(())
+}
+
+/// Lets an event happen, and writes its line.
+fn happen(
+    alloc: Global,
+    house: &House,
+    happened: &Numbered,
+    world: &mut World,
+    out: &mut String,
+) -> Result<(), PlainHalt>
+    requires { AreWithin 4294967294 world.old.ledgers }
+    ensures { Happens result (string_bytes out.old) (string_bytes out.new) world.new (happened_of house.now world.old happened.now) }
+{
+    let line = happened.line;
+    if world.is_out_of_range(&happened.event) {
+        return Err(PlainHalt::Refused {
+            line,
+            rule: ScriptRule::OutOfRange,
+        });
+    }
+    match world.step(alloc, house, &happened.event) {
+        Ok(reply) => Ok(write_reply(line, &reply, out)?),
+        Err(error) => Err(PlainHalt::from(error)),
+    }
+}
+
+/// Lets the events of the script happen, and writes a line for each.
+fn run(alloc: Global, script: &Script, out: &mut String) -> Result<World, PlainHalt>
+    requires few { length script.now.events < 4294967295 }
+    requires empty { string_bytes out.old ≡ [] }
+    ensures { GivesRun result (string_bytes out.new) (run_from script.now.house (started_world script.now.house) script.now.events) }
+{
+    let mut world = World::start(alloc, &script.house)?;
+    for happened in script.events.as_slice() {
+        happen(alloc, &script.house, happened, &mut world, out)?;
+    }
+    Ok(world)
+}
+
+/// The report of a script that was read.
+fn report(alloc: Global, script: &Script) -> Result<List<u8>, PlainHalt>
+    requires { length script.now.events < 4294967295 }
+    ensures { GivesReport result (report_of (script_told script.now)) }
+{
+    let mut text = String::new(alloc);
+    let world = run(alloc, script, &mut text)?;
+    write_tables(alloc, &script.house, &world, &mut text)?;
+    Ok(List::from_vec(text.into_bytes()))
+}
+
+/// The report of a script, or the first line that breaks a rule.
+fn rehearsed(alloc: Global, script: &[u8]) -> Result<List<u8>, PlainHalt>
+    ensures { GivesReport result (report_behind (reading_of script.now)) }
+{
+    let script = read_script(alloc, script)?;
+    report(alloc, &script)
+}
+
+/// The halt with the rule that this build answers.
+fn answered(halt: PlainHalt) -> PlainHalt
+    ensures { result ≡ answered_halt halt }
+{
+    match halt {
+        PlainHalt::Refused { line, rule } => PlainHalt::Refused {
+            line,
+            rule: rule.answered(),
+        },
+        PlainHalt::NoMemory => PlainHalt::NoMemory,
+    }
+}
+
+/// Rehearses a plain script: the whole report, or the first line that breaks a rule.
+pub fn rehearse_plain(alloc: Global, script: &[u8]) -> Result<List<u8>, PlainHalt>
+    ensures { GivesReport result (rehearsal_of script.now) }
+{
+    match rehearsed(alloc, script) {
+        Ok(report) => Ok(report),
+        Err(halt) => Err(answered(halt)),
+    }
+}
