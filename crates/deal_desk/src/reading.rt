@@ -1,0 +1,45 @@
+//! Reading a script from a source.
+
+ghost use Rattle.std.specs.Prelude.{◌≡◌, ◌≤◌, length, IfOk, IfErr};
+ghost use Rattle.deal_desk.specs.declared.reading.ReadHalt.TheVariants.{Failed as HasFailed};
+ghost use Rattle.dh_base.specs.Faults.{HasRisen};
+ghost use Rattle.deal_desk.specs.Inputs.{WasRead};
+
+use dh_base::Source;
+use std::alloc::Global;
+
+/// One byte more than a script may have.
+const MOST_READ: usize = 2097153;
+
+/// How many bytes are read at once.
+const PIECE: usize = 4096;
+
+/// Why a source is not read.
+pub enum ReadHalt {
+    Failed,
+    NoMemory,
+}
+
+/// Reads the source to its end, or to one byte more than a script may have.
+pub fn read_script<S: Source>(alloc: Global, input: &mut S) -> Result<Vec<u8>, ReadHalt>
+    ensures read { IfOk result (λ bytes. WasRead (S.left input.old) bytes.items (S.left input.new)) }
+    ensures failed { IfErr result (λ halt. halt ≡ HasFailed → HasRisen (S.faults input.old) (S.faults input.new)) }
+{
+    let mut bytes = Vec::new(alloc);
+    let mut piece = [0; PIECE];
+    loop {
+        let room = PIECE.min(MOST_READ - bytes.len());
+        if room == 0 {
+            return Ok(bytes);
+        }
+        let Ok(n) = input.read(&mut piece[..room]) else {
+            return Err(ReadHalt::Failed);
+        };
+        if n == 0 {
+            return Ok(bytes);
+        }
+        if bytes.extend_from_slice(&piece[..n]).is_err() {
+            return Err(ReadHalt::NoMemory);
+        }
+    }
+}
