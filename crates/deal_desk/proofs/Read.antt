@@ -5,7 +5,7 @@ use Rattle.std.proofs.lemmas.List.{append-nil, length-append}
 use Rattle.plain_script.specs.Reading.{Refused, ScriptTold, most_bytes, reading_of}
 use Rattle.plain_script.specs.declared.rule.ScriptRule.TheVariants.{TooLarge}
 use Rattle.deal_desk.specs.Inputs.{WasRead}
-use Rattle.deal_desk.specs.Endings.{SourceSeen, SinkSeen, IsTold, IsRehearsed}
+use Rattle.deal_desk.specs.Endings.{SourceSeen, SinkSeen, WroteFront, answer_text, is_rehearse, usage_text, Says, IsTold, IsRehearsed, IsEnding}
 use Rattle.deal_desk.specs.declared.ending.Ending.{Ending}
 use Rattle.deal_desk.specs.declared.ending.Ending.TheVariants.{Reported, Usage, Refused as RefusedEnding, InputFailed, OutputFailed, NoMemory}
 use Rattle.plain_core.specs.Reports.{answered_report, report_behind, rehearsal_of}
@@ -57,5 +57,12 @@ read_and_told ending input input_after output output_after bytes script is read 
     by (RefusedEnding line rule) (Some all) None r t = absurd r
     by (RefusedEnding line rule) (Some all) (Some rest) r t = (same_rehearsal all bytes rest r.0 r.1 ∙ t.0, t.1)
     by InputFailed left left_after r t = absurd (true_not_false t)
-    by OutputFailed left left_after r t = t
+    by OutputFailed None left_after r t = (t.0, tt)
+    by OutputFailed (Some all) None r t = absurd r
+    by OutputFailed (Some all) (Some rest) r t = (t.0, subst (λ (a : Result (List ℕ) Refused). WroteFront output (answer_text a) output_after) (sym (same_rehearsal all bytes rest r.0 r.1)) t.1)
     by NoMemory left left_after r t = t
+
+-- other words have the usage line
+pub usage_told : (words : List (List ℕ)) (ending : Ending) (input : SourceSeen) (output output_after : SinkSeen) (text : List ℕ) → is_rehearse words ≡ false → text ≡ usage_text → Says Usage ending output text output_after → IsEnding (is_rehearse words) ending input input output output_after
+usage_told words ending input output output_after text other is says =
+    subst (λ b. IsEnding b ending input input output output_after) (sym other) (refl, subst (λ (t : List ℕ). Says Usage ending output t output_after) is says)

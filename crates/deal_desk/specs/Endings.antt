@@ -1,9 +1,10 @@
 -- How a run of the program ends, and what then holds.
-use Rattle.std.specs.Prelude.{ℕ, ◌≡◌, Bool, true, false, ◌⊎◌, List, [], ◌∷◌, ◌++◌, Option, Some, None, IfSome, IsSomeAnd, Ok, Err, codes}
+use Rattle.std.specs.Prelude.{ℕ, ◌≡◌, Bool, true, false, ◌⊎◌, List, [], ◌∷◌, ◌++◌, Option, Some, None, IfSome, IsSomeAnd, Result, Ok, Err, take, codes}
 use Rattle.std.specs.Str.{bytes_eq}
 use Rattle.dh_base.specs.Faults.{HasRisen}
 use Rattle.plain_script.specs.RuleNames.{refused_text}
 use Rattle.plain_script.specs.declared.rule.ScriptRule.{ScriptRule}
+use Rattle.plain_script.specs.Reading.{Refused as RefusedAt}
 use Rattle.plain_core.specs.Reports.{rehearsal_of}
 use Rattle.deal_desk.specs.declared.ending.Ending.{Ending}
 use Rattle.deal_desk.specs.declared.ending.Ending.TheVariants.{Reported, Usage, Refused, InputFailed, OutputFailed, NoMemory}
@@ -47,9 +48,18 @@ Never = true ≡ false
 abbrev pub Wrote : SinkSeen → List ℕ → SinkSeen → Type 0
 Wrote before text after = IfSome before.written (λ bytes. IsSomeAnd after.written (λ longer. longer ≡ bytes ++ text))
 
--- The text was written and the run ends as is wanted, or the sink failed.
+-- the sink gained the first bytes of the text, however many
+abbrev pub WroteFront : SinkSeen → List ℕ → SinkSeen → Type 0
+WroteFront before text after = IfSome before.written (λ bytes. IsSomeAnd after.written (λ longer. (n : ℕ) × (longer ≡ bytes ++ take n text)))
+
+-- what is to be written for a script: its report, or the line that tells why it is refused
+abbrev pub answer_text : Result (List ℕ) RefusedAt → List ℕ
+answer_text (Ok report) = report
+answer_text (Err refused) = refused_line refused.line refused.rule
+
+-- The text was written and the run ends as is wanted, or the sink failed on the way.
 abbrev pub Says : (wanted ending : Ending) → SinkSeen → List ℕ → SinkSeen → Type 0
-Says wanted ending before text after = ((ending ≡ wanted) × Wrote before text after) ⊎ ((ending ≡ OutputFailed) × HasRisen before.faults after.faults)
+Says wanted ending before text after = ((ending ≡ wanted) × Wrote before text after) ⊎ ((ending ≡ OutputFailed) × HasRisen before.faults after.faults × WroteFront before text after)
 
 -- the same of the line that tells why a script is refused, unless memory ran out
 abbrev pub Refuses : ℕ → ScriptRule → Ending → (before after : SinkSeen) → Type 0
@@ -61,7 +71,7 @@ IsTold Reported script before after = (report : List ℕ) × (rehearsal_of scrip
 IsTold Usage script before after = Never
 IsTold (Refused line rule) script before after = (rehearsal_of script ≡ Err (record { line = line; rule = rule })) × Wrote before (refused_line line rule) after
 IsTold InputFailed script before after = Never
-IsTold OutputFailed script before after = HasRisen before.faults after.faults
+IsTold OutputFailed script before after = HasRisen before.faults after.faults × WroteFront before (answer_text (rehearsal_of script)) after
 IsTold NoMemory script before after = after ≡ before
 
 -- How a rehearsal ends. A report is that of all bytes that the source told, and the source was read to its end.
@@ -70,7 +80,7 @@ IsRehearsed Reported input input_after output output_after = IfSome input.left (
 IsRehearsed Usage input input_after output output_after = Never
 IsRehearsed (Refused line rule) input input_after output output_after = IfSome input.left (λ script. IsTold (Refused line rule) script output output_after)
 IsRehearsed InputFailed input input_after output output_after = HasRisen input.faults input_after.faults × (output_after ≡ output)
-IsRehearsed OutputFailed input input_after output output_after = HasRisen output.faults output_after.faults
+IsRehearsed OutputFailed input input_after output output_after = HasRisen output.faults output_after.faults × IfSome input.left (λ script. WroteFront output (answer_text (rehearsal_of script)) output_after)
 IsRehearsed NoMemory input input_after output output_after = output_after ≡ output
 
 -- Words that don't ask for a rehearsal have the usage line, and the source is left alone.

@@ -68,7 +68,7 @@ fn check(
     written: &str,
 ) -> Result<(), Fail> {
     let mut words = Vec::new(alloc);
-    words.push(String::from(alloc, word)?)?;
+    words.push(String::from_str(alloc, word)?)?;
     let mut input = source(alloc, script, &[])?;
     let mut output = sink(alloc, &[])?;
     assert_eq!(rt; run(alloc, &words, &mut input, &mut output), status);
@@ -96,56 +96,90 @@ fn other_words_have_the_usage_line(rt: HostRuntime) -> Result<(), Fail> {
     check(&rt, rt.alloc(), "", BROKER, 1, USAGE)
 }
 
+/// What stands before `begin` in the scripts of the next test, on lines 1 to 4.
+const DECLARED: &str = "plain\nledger coins\nopen coins coin ann 5\ndeal d ann ben\n";
+
 #[test]
 fn a_refused_script_has_its_line(rt: HostRuntime) -> Result<(), Fail> {
     let alloc = rt.alloc();
-    check(
-        &rt,
-        alloc,
-        "rehearse",
-        "house\n",
-        2,
-        "line 1 rule 12 NotBuilt\n",
-    )?;
-    check(
-        &rt,
-        alloc,
-        "rehearse",
-        "plain\nbegin",
-        2,
-        "line 2 rule 1 BadLine\n",
-    )?;
-    check(
-        &rt,
-        alloc,
-        "rehearse",
-        "plain\n",
-        2,
-        "line 2 rule 1 BadLine\n",
-    )?;
-    check(
-        &rt,
-        alloc,
-        "rehearse",
-        "plain\nledger coins\ndeal d ann ben\nbegin\nclaim coins d 0\nclaim coins d 1\n",
-        2,
-        "line 6 rule 1 BadLine\n",
-    )
+    let refused = [
+        ("", "house\n", "line 1 rule 12 NotBuilt\n"),
+        ("", "# none\n\nhouse\n", "line 3 rule 12 NotBuilt\n"),
+        ("", "plain\n", "line 2 rule 1 BadLine\n"),
+        ("", "plain\nbegin", "line 2 rule 1 BadLine\n"),
+        ("", "ledger coins\n", "line 1 rule 1 BadLine\n"),
+        (DECLARED, "ledger coins\n", "line 5 rule 1 BadLine\n"),
+        (
+            DECLARED,
+            "open coins coin ann 6\n",
+            "line 5 rule 1 BadLine\n",
+        ),
+        (DECLARED, "deal e ann\n", "line 5 rule 1 BadLine\n"),
+        (DECLARED, "deal e ann ann\n", "line 5 rule 1 BadLine\n"),
+        (
+            DECLARED,
+            "ledger a2345678901234567\n",
+            "line 5 rule 1 BadLine\n",
+        ),
+        (DECLARED, "begin\nstart d  ann\n", "line 6 rule 1 BadLine\n"),
+        (DECLARED, "begin\nstart d\tann\n", "line 6 rule 1 BadLine\n"),
+        (
+            DECLARED,
+            "begin\nstart d ann\r\n",
+            "line 6 rule 1 BadLine\n",
+        ),
+        (DECLARED, "begin\nstart e ann\n", "line 6 rule 1 BadLine\n"),
+        (
+            DECLARED,
+            "begin\nclaim coins d 00\n",
+            "line 6 rule 1 BadLine\n",
+        ),
+        (
+            DECLARED,
+            "begin\nclaim coins d 1\n",
+            "line 6 rule 1 BadLine\n",
+        ),
+        (
+            DECLARED,
+            "begin\nclaim coins d 4294967296\n",
+            "line 6 rule 1 BadLine\n",
+        ),
+        (
+            DECLARED,
+            "begin\nclaim coins d 1\nbegin\n",
+            "line 7 rule 1 BadLine\n",
+        ),
+        (
+            DECLARED,
+            "begin\nstart d eve\nstart e ann\n",
+            "line 6 rule 1 BadLine\n",
+        ),
+    ];
+    for (before, after, line) in refused.iter() {
+        let script = format!(in alloc; "{before}{after}")?;
+        check(&rt, alloc, "rehearse", script.as_str(), 2, line)?;
+    }
+    Ok(())
 }
 
 #[test]
 fn failing_calls_have_their_status(rt: HostRuntime) -> Result<(), Fail> {
     let alloc = rt.alloc();
     let mut words = Vec::new(alloc);
-    words.push(String::from(alloc, "rehearse")?)?;
-    let mut input = source(alloc, BROKER, &[1])?;
-    let mut output = sink(alloc, &[])?;
-    assert_eq!(rt; run(alloc, &words, &mut input, &mut output), 3);
-    assert_eq!(rt; output.written(), b"".as_slice());
-    let mut input = source(alloc, BROKER, &[])?;
-    let mut output = sink(alloc, &[0])?;
-    assert_eq!(rt; run(alloc, &words, &mut input, &mut output), 4);
-    assert_eq!(rt; output.written(), b"".as_slice());
+    words.push(String::from_str(alloc, "rehearse")?)?;
+    for fails in 0..2 {
+        let mut input = source(alloc, BROKER, &[fails])?;
+        let mut output = sink(alloc, &[])?;
+        assert_eq!(rt; run(alloc, &words, &mut input, &mut output), 3);
+        assert_eq!(rt; output.written(), b"".as_slice());
+    }
+    for script in [BROKER, "house\n"] {
+        let mut input = source(alloc, script, &[])?;
+        let mut output = sink(alloc, &[0])?;
+        assert_eq!(rt; run(alloc, &words, &mut input, &mut output), 4);
+        assert_eq!(rt; output.written(), b"".as_slice());
+        assert_eq!(rt; input.left(), 0);
+    }
     Ok(())
 }
 
@@ -153,7 +187,7 @@ fn failing_calls_have_their_status(rt: HostRuntime) -> Result<(), Fail> {
 fn too_many_bytes_are_not_held(rt: HostRuntime) -> Result<(), Fail> {
     let alloc = rt.alloc();
     let mut words = Vec::new(alloc);
-    words.push(String::from(alloc, "rehearse")?)?;
+    words.push(String::from_str(alloc, "rehearse")?)?;
     let mut bytes = Vec::new(alloc);
     bytes.resize(2097160, b'\n')?;
     let mut input = MemSource::new(List::from_vec(bytes), List::from_vec(Vec::new(alloc)));
