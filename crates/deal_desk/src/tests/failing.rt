@@ -1,0 +1,114 @@
+//! Each read and each write fails in turn.
+
+use super::{BROKER, BROKER_REPORT, USAGE, sink, source, words};
+use crate::run::run;
+use dh_base::{Failed, MemSink, Sink};
+use std::alloc::Global;
+use std::process::Abort;
+use std::test::Fail;
+
+/// The most bytes that a narrow sink takes at a call.
+const MOST_TAKEN: usize = 8;
+
+/// A sink in memory that takes a few bytes at a call.
+#[derive(Drop)]
+struct NarrowSink {
+    sink: MemSink,
+}
+
+impl Sink for NarrowSink {
+    ghost use Rattle.std.specs.Prelude.{None};
+
+    ghost written = { λ _. None };
+
+    ghost faults = { λ s. s.sink.calls.faults };
+
+    fn write(&mut self, piece: &[u8]) -> Result<usize, Failed> {
+        let taken = piece.len().min(MOST_TAKEN);
+        self.sink.write(&piece[..taken])
+    }
+}
+
+#[test]
+fn a_failing_read_has_status_3(rt: HostRuntime) -> Result<(), Fail> {
+    let alloc = rt.alloc();
+    let words = words(alloc, "rehearse")?;
+    let comment = vec![in alloc; b'#'; 10000]?;
+    let mut script = BROKER.as_bytes().to_vec(alloc)?;
+    script.extend_from_slice(comment.as_slice())?;
+    script.push(b'\n')?;
+    for read in 0..4 {
+        let mut input = source(alloc, script.as_slice(), &[read])?;
+        let mut output = sink(alloc, &[])?;
+        assert_eq!(rt;
+            run(alloc, &words, &mut input, &mut output),
+            3,
+            "read {read}"
+        );
+        assert_eq!(rt; input.faults(), 1);
+        assert_eq!(rt; output.written(), b"".as_slice());
+    }
+    let mut input = source(alloc, script.as_slice(), &[4])?;
+    let mut output = sink(alloc, &[])?;
+    assert_eq!(rt; run(alloc, &words, &mut input, &mut output), 0);
+    assert_eq!(rt; output.written(), BROKER_REPORT.as_bytes());
+    Ok(())
+}
+
+/// The status of a run with its output to the narrow sink.
+fn run_narrow(
+    alloc: Global,
+    word: &str,
+    script: &str,
+    output: &mut NarrowSink,
+) -> Result<u8, Fail> {
+    let words = words(alloc, word)?;
+    let mut input = source(alloc, script.as_bytes(), &[])?;
+    Ok(run(alloc, &words, &mut input, output))
+}
+
+/// Checks a run in which no write fails, and runs in which each one does.
+fn check_writes(
+    rt: &impl Abort,
+    alloc: Global,
+    word: &str,
+    script: &str,
+    status: u8,
+    text: &str,
+) -> Result<(), Fail> {
+    let mut front = Vec::new(alloc);
+    for (write, piece) in (0..u32::MAX).zip(text.as_bytes().chunks(MOST_TAKEN)) {
+        let mut output = NarrowSink {
+            sink: sink(alloc, &[write])?,
+        };
+        assert_eq!(rt;
+            run_narrow(alloc, word, script, &mut output)?,
+            4,
+            "write {write}"
+        );
+        assert_eq!(rt; output.sink.faults(), 1);
+        assert_eq!(rt; output.sink.written(), front.as_slice());
+        front.extend_from_slice(piece)?;
+    }
+    let mut output = NarrowSink {
+        sink: sink(alloc, &[])?,
+    };
+    assert_eq!(rt; run_narrow(alloc, word, script, &mut output)?, status);
+    assert_eq!(rt; output.sink.written(), text.as_bytes());
+    Ok(())
+}
+
+#[test]
+fn a_failing_write_has_status_4(rt: HostRuntime) -> Result<(), Fail> {
+    let alloc = rt.alloc();
+    check_writes(&rt, alloc, "rehearse", BROKER, 0, BROKER_REPORT)?;
+    check_writes(
+        &rt,
+        alloc,
+        "rehearse",
+        "house\n",
+        2,
+        "line 1 rule 12 NotBuilt\n",
+    )?;
+    check_writes(&rt, alloc, "help", BROKER, 1, USAGE)
+}
