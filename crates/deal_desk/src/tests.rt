@@ -1,5 +1,6 @@
 mod failing;
 mod limits;
+mod memory;
 mod refused;
 mod reports;
 
