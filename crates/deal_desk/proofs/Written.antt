@@ -1,12 +1,8 @@
 -- A text is written piece by piece.
-use Rattle.std.proofs.Common.{◌≡◌, ℕ, ◌+◌, ◌-◌, ◌≤◌, List, ◌++◌, length, take, drop, Option, Some, None, IfSome, IsSomeAnd, sym, ap, ◌∙◌, append_assoc, take-add}
+use Rattle.std.proofs.Common.{ℕ, ◌+◌, List, ◌++◌, take, drop, Option, Some, None, sym, ap, ◌∙◌, append_assoc, take-add}
 use Rattle.dh_base.specs.Outside.{Gains}
 
--- the sink has what it had, and the first bytes of the text behind it
-abbrev pub HasFront : Option (List ℕ) → List ℕ → ℕ → Option (List ℕ) → Type 0
-HasFront first text at now = IfSome first (λ before. IsSomeAnd now (λ longer. longer ≡ before ++ take at text))
-
-pub front_grows : (text : List ℕ) (at n : ℕ) (first now next : Option (List ℕ)) → HasFront first text at now → Gains now (drop at text) n next → HasFront first text (at + n) next
+pub front_grows : (text : List ℕ) (at n : ℕ) (first now next : Option (List ℕ)) → Gains first text at now → Gains now (drop at text) n next → Gains first text (at + n) next
 front_grows text at n None now next front gains = tt
 front_grows text at n (Some before) None next front gains = absurd front
 front_grows text at n (Some before) (Some so_far) None front gains = absurd gains

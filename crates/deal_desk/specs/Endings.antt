@@ -1,7 +1,8 @@
 -- How a run of the program ends, and what then holds.
-use Rattle.std.specs.Prelude.{ℕ, ◌≡◌, Bool, true, false, ◌⊎◌, List, [], ◌∷◌, ◌++◌, Option, Some, None, IfSome, IsSomeAnd, Result, Ok, Err, take, codes}
+use Rattle.std.specs.Prelude.{ℕ, ◌≡◌, Bool, true, false, ◌⊎◌, List, [], ◌∷◌, ◌++◌, Option, Some, IfSome, IsSomeAnd, Result, Ok, Err, codes}
 use Rattle.std.specs.Str.{bytes_eq}
 use Rattle.dh_base.specs.Faults.{HasRisen}
+use Rattle.dh_base.specs.Outside.{Gains}
 use Rattle.plain_script.specs.RuleNames.{refused_text}
 use Rattle.plain_script.specs.declared.rule.ScriptRule.{ScriptRule}
 use Rattle.plain_script.specs.Reading.{Refused as RefusedAt}
@@ -50,7 +51,7 @@ Wrote before text after = IfSome before.written (λ bytes. IsSomeAnd after.writt
 
 -- the sink gained the first bytes of the text, however many
 abbrev pub WroteFront : SinkSeen → List ℕ → SinkSeen → Type 0
-WroteFront before text after = IfSome before.written (λ bytes. IsSomeAnd after.written (λ longer. (n : ℕ) × (longer ≡ bytes ++ take n text)))
+WroteFront before text after = (n : ℕ) × Gains before.written text n after.written
 
 -- what is to be written for a script: its report, or the line that tells why it is refused
 abbrev pub answer_text : Result (List ℕ) RefusedAt → List ℕ
