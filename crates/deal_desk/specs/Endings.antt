@@ -7,6 +7,7 @@ use Rattle.plain_script.specs.RuleNames.{refused_text}
 use Rattle.plain_script.specs.declared.rule.ScriptRule.{ScriptRule}
 use Rattle.plain_script.specs.Reading.{Refused as RefusedAt}
 use Rattle.plain_core.specs.Reports.{rehearsal_of}
+use Rattle.deal_desk.specs.Inputs.{unread, GaveFront}
 use Rattle.deal_desk.specs.declared.ending.Ending.{Ending}
 use Rattle.deal_desk.specs.declared.ending.Ending.TheVariants.{Reported, Usage, Refused, InputFailed, OutputFailed, NoMemory}
 
@@ -75,14 +76,16 @@ IsTold InputFailed script before after = Never
 IsTold OutputFailed script before after = HasRisen before.faults after.faults × WroteFront before (answer_text (rehearsal_of script)) after
 IsTold NoMemory script before after = after ≡ before
 
--- How a rehearsal ends. A report is that of all bytes that the source told, and the source was read to its end.
+-- How a rehearsal ends. A report is that of all bytes that the source told, and the source was read to its end. A line is
+-- refused, or a writing fails, where the source was read to its end or to one byte more than a script may have. No ending
+-- takes more of it.
 abbrev pub IsRehearsed : Ending → (input input_after : SourceSeen) → (output output_after : SinkSeen) → Type 0
 IsRehearsed Reported input input_after output output_after = IfSome input.left (λ script. (input_after.left ≡ Some []) × IsTold Reported script output output_after)
 IsRehearsed Usage input input_after output output_after = Never
-IsRehearsed (Refused line rule) input input_after output output_after = IfSome input.left (λ script. IsTold (Refused line rule) script output output_after)
-IsRehearsed InputFailed input input_after output output_after = HasRisen input.faults input_after.faults × (output_after ≡ output)
-IsRehearsed OutputFailed input input_after output output_after = HasRisen output.faults output_after.faults × IfSome input.left (λ script. WroteFront output (answer_text (rehearsal_of script)) output_after)
-IsRehearsed NoMemory input input_after output output_after = output_after ≡ output
+IsRehearsed (Refused line rule) input input_after output output_after = IfSome input.left (λ script. (input_after.left ≡ Some (unread script)) × IsTold (Refused line rule) script output output_after)
+IsRehearsed InputFailed input input_after output output_after = HasRisen input.faults input_after.faults × GaveFront input.left input_after.left × (output_after ≡ output)
+IsRehearsed OutputFailed input input_after output output_after = HasRisen output.faults output_after.faults × IfSome input.left (λ script. (input_after.left ≡ Some (unread script)) × WroteFront output (answer_text (rehearsal_of script)) output_after)
+IsRehearsed NoMemory input input_after output output_after = GaveFront input.left input_after.left × (output_after ≡ output)
 
 -- Words that don't ask for a rehearsal have the usage line, and the source is left alone.
 abbrev pub IsEnding : Bool → Ending → (input input_after : SourceSeen) → (output output_after : SinkSeen) → Type 0

@@ -1,15 +1,16 @@
 //! Reading a script from a source.
 
-ghost use Rattle.std.specs.Prelude.{◌≡◌, ◌≤◌, length, IfOk, IfErr};
+ghost use Rattle.std.specs.Prelude.{◌≡◌, IfOk, IfErr, OnErr};
 ghost use Rattle.deal_desk.specs.declared.reading.ReadHalt.TheVariants.{Failed as HasFailed};
 ghost use Rattle.dh_base.specs.Faults.{HasRisen};
-ghost use Rattle.deal_desk.specs.Inputs.{WasRead};
+ghost use Rattle.deal_desk.specs.Inputs.{WasRead, GaveFront};
 
 use dh_base::Source;
+use plain_script::script::MOST_BYTES;
 use std::alloc::Global;
 
 /// One byte more than a script may have.
-const MOST_READ: usize = 2097153;
+const MOST_READ: usize = MOST_BYTES + 1;
 
 /// How many bytes are read at once.
 const PIECE: usize = 4096;
@@ -23,6 +24,7 @@ pub enum ReadHalt {
 /// Reads the source to its end, or to one byte more than a script may have.
 pub fn read_script<S: Source>(alloc: Global, input: &mut S) -> Result<Vec<u8>, ReadHalt>
     ensures read { IfOk result (λ bytes. WasRead (S.left input.old) bytes.items (S.left input.new)) }
+    ensures front { OnErr result (GaveFront (S.left input.old) (S.left input.new)) }
     ensures failed { IfErr result (λ halt. halt ≡ HasFailed → HasRisen (S.faults input.old) (S.faults input.new)) }
 {
     let mut bytes = Vec::new(alloc);

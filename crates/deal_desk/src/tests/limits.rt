@@ -1,7 +1,6 @@
 //! Scripts at a limit and one past it.
 
-use super::{check, sink, source, words};
-use crate::run::run;
+use super::check;
 use std::alloc::Global;
 use std::process::Abort;
 use std::test::Fail;
@@ -142,16 +141,4 @@ fn a_script_has_2097152_bytes(rt: HostRuntime) -> Result<(), Fail> {
     check(&rt, alloc, "rehearse", bad.as_slice(), 2, bad_line)?;
     bad.push(b'x')?;
     check(&rt, alloc, "rehearse", bad.as_slice(), 2, too_large)
-}
-
-#[test]
-fn one_byte_past_the_limit_is_read(rt: HostRuntime) -> Result<(), Fail> {
-    let alloc = rt.alloc();
-    let words = words(alloc, "rehearse")?;
-    let bytes = vec![in alloc; b'#'; 2097160]?;
-    let mut input = source(alloc, bytes.as_slice(), &[])?;
-    let mut output = sink(alloc, &[])?;
-    assert_eq!(rt; run(alloc, &words, &mut input, &mut output), 2);
-    assert_eq!(rt; input.left(), 7);
-    Ok(())
 }
