@@ -6,6 +6,8 @@ pub mod Accepting
 pub mod Once
 pub mod Growth
 pub mod Cut
+pub mod Growing
+pub mod Paying
 pub mod Accounts
 pub mod Known
 pub mod Settlements

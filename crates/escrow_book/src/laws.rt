@@ -1,11 +1,11 @@
 //! What holds of every history that a book reaches.
 
-ghost use Rattle.std.specs.Prelude.{◌≡◌, ◌<◌, ◌≤◌, ℕ, List, Some, None, IsTrue};
+ghost use Rattle.std.specs.Prelude.{◌≡◌, ◌<◌, ◌≤◌, ◌+◌, ℕ, List, Some, None, IsTrue};
 ghost use Rattle.dh_base.specs.declared.id.Id.{Id};
 ghost use Rattle.dh_base.specs.declared.outcome.Outcome.{Outcome};
 ghost use Rattle.escrow_book.specs.declared.change.Change.{Change};
 ghost use Rattle.escrow_book.specs.declared.change.Change.TheVariants.{Registered, Escrowed, Transferred, Paid, Settled};
-ghost use Rattle.escrow_book.specs.History.{History, with_change, with_changes, parties_of, settlement_of, moves_of, payout_of};
+ghost use Rattle.escrow_book.specs.History.{History, with_change, with_changes, parties_of, settlement_of, moves_of, payout_of, free_of};
 ghost use Rattle.escrow_book.specs.Refused.{escrow_refusal, transfer_refusal, pay_refusal, settle_refusal};
 ghost use Rattle.escrow_book.specs.Reached.{IsReached, are_parties, are_different, greatest_turn};
 ghost use Rattle.escrow_book.specs.Conserved.{NothingIsCut, AreItsAccounts, IsConserved, IsWithinLimits, registrations_of, settlements_of};
@@ -51,4 +51,10 @@ pub fn settled_once()
     ensures payout_stays { (h : History) (more : List Change) (d p : Id) (x : List ℕ) (outcome : Outcome)
         → IsReached (with_changes h more) → settlement_of h d ≡ Some outcome
         → payout_of (with_changes h more) d outcome p x ≡ payout_of h d outcome p x }
+{}
+
+/// What a settlement pays out stands in the free amount behind it: the payout comes to what was free before.
+pub fn settlement_pays()
+    ensures { (h : History) (d p : Id) (x : List ℕ) (outcome : Outcome) → IsReached h → settle_refusal h d ≡ None
+        → free_of (with_change h (Settled d outcome)) p x ≡ free_of h p x + payout_of h d outcome p x }
 {}

@@ -1,7 +1,5 @@
-use Rattle.std.proofs.Common.{◌≡◌, None, subst, ℕ}
-use Rattle.escrow_book.specs.declared.change.Change.TheVariants.{Registered, Escrowed, Transferred, Paid, Settled}
-use Rattle.escrow_book.specs.Refused.{transfer_refusal}
-use Rattle.escrow_book.proofs.Accepting.{turn_is}
+use Rattle.escrow_book.specs.declared.change.Change.TheVariants.{Registered, Escrowed, Paid, Settled}
+use Rattle.escrow_book.proofs.Growing.{transfer_grows}
 use Rattle.escrow_book.proofs.Steps.{reached_push}
 use Rattle.escrow_book.proofs.laws.reached_grows.Goals as goal
 
@@ -12,8 +10,7 @@ pub returns-clause-escrow : goal.returns-clause-escrow
 returns-clause-escrow c = λ h d p x n r free. reached_push h (Escrowed d p x n) r free
 
 pub returns-clause-transfer : goal.returns-clause-transfer
-returns-clause-transfer c = λ h d from turn to x n r room free.
-    reached_push h (Transferred d from to x n) r (subst (λ (k : ℕ). transfer_refusal h d from k to x n ≡ None) (turn_is h d from turn to x n free) free, room)
+returns-clause-transfer c = transfer_grows
 
 pub returns-clause-pay : goal.returns-clause-pay
 returns-clause-pay c = λ h from to x n r free. reached_push h (Paid from to x n) r free
