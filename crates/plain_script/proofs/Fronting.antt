@@ -89,7 +89,7 @@ said_few n (Some s) = subst (λ k. k ≤ 1) (ap length (sym (append-nil (numbere
 line_few : (n : ℕ) (line : Line) → length (flat_map (numbered n) (statements_by line)) ≤ 1
 line_few n line = elim (passes_over line) as (λ b. length (flat_map (numbered n) (cond b [] (to_list (said_by line)))) ≤ 1) [ true ↦ omega arith | false ↦ said_few n (said_by line) ]
 
-events_few : (n : ℕ) (lines : List Line) → length (events_from n lines) ≤ length lines
+pub events_few : (n : ℕ) (lines : List Line) → length (events_from n lines) ≤ length lines
 events_few n [] = omega arith
 events_few n (line ∷ lines) = omega (arith, length-append (flat_map (numbered (n + 1)) (statements_by line)) (events_from (n + 1) lines), line_few (n + 1) line, events_few (n + 1) lines)
 
@@ -153,7 +153,7 @@ ends all left front r none =
     let lines : r.before ≡ all = sym (append-nil r.before) ∙ (ap (λ (ls : List Line). r.before ++ ls) (sym none) ∙ r.whole) in
     ap (reading_lines all) found ∙ (ap reading_whole (sym lines) ∙ (whole_is r.before ∙ ap whole_of (sym r.front_is)))
 
-lines_few : (text : List ℕ) → length (lines_of text) ≤ length text
+pub lines_few : (text : List ℕ) → length (lines_of text) ≤ length text
 lines_few [] = omega arith
 lines_few (c ∷ cs) = at (c == 10) (lines_of cs) (lines_few cs)
   where

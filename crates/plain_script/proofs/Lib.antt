@@ -1,3 +1,4 @@
+pub mod Declared
 pub mod FirstLine
 pub mod Fronting
 pub mod NamesSame

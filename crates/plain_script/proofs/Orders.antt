@@ -24,7 +24,7 @@ abbrev pub Keeps : Front → List Line → Type 0
 Keeps front [] = Unit {0}
 Keeps front (line ∷ lines) = (rule_behind front line ≡ None) × Keeps (front_after front line) lines
 
-at_line_none : (n : ℕ) (rule : Option ScriptRule) (later : Option Refused) → at_line n rule later ≡ None → (rule ≡ None) × (later ≡ None)
+pub at_line_none : (n : ℕ) (rule : Option ScriptRule) (later : Option Refused) → at_line n rule later ≡ None → (rule ≡ None) × (later ≡ None)
 at_line_none n None later e = (refl, e)
 at_line_none n (Some rule) later e = absurd cc
 

@@ -77,18 +77,18 @@ are_spelled laws before front (line ∷ lines) keeps feeds =
 
 -- ---- what was read
 
-within : (script : List ℕ) (told : ScriptTold) → reading_of script ≡ Ok told → (length script ≤ most_bytes) × (reading_lines (lines_of script) (first_refused [] (lines_of script)) ≡ Ok told)
+pub within : (script : List ℕ) (told : ScriptTold) → reading_of script ≡ Ok told → (length script ≤ most_bytes) × (reading_lines (lines_of script) (first_refused [] (lines_of script)) ≡ Ok told)
 within script told e = by_size (ltb most_bytes (length script)) refl e
   where
     by_size : (b : Bool) → ltb most_bytes (length script) ≡ b → cond b (Err (record { line = 0; rule = TooLarge })) (reading_lines (lines_of script) (first_refused [] (lines_of script))) ≡ Ok told → (length script ≤ most_bytes) × (reading_lines (lines_of script) (first_refused [] (lines_of script)) ≡ Ok told)
     by_size true h f = absurd cc
     by_size false h f = (ltb-false most_bytes (length script) h, f)
 
-unrefused : (lines : List Line) (refused : Option Refused) (told : ScriptTold) → reading_lines lines refused ≡ Ok told → (refused ≡ None) × (reading_whole lines ≡ Ok told)
+pub unrefused : (lines : List Line) (refused : Option Refused) (told : ScriptTold) → reading_lines lines refused ≡ Ok told → (refused ≡ None) × (reading_whole lines ≡ Ok told)
 unrefused lines None told e = (refl, e)
 unrefused lines (Some r) told e = absurd cc
 
-chosen_ok : (b : Bool) (x told : ScriptTold) (r : Refused) → cond b (Ok x) (Err r) ≡ Ok told → (b ≡ true) × (x ≡ told)
+pub chosen_ok : (b : Bool) (x told : ScriptTold) (r : Refused) → cond b (Ok x) (Err r) ≡ Ok told → (b ≡ true) × (x ≡ told)
 chosen_ok true x told r e = (refl, cc)
 chosen_ok false x told r e = absurd cc
 

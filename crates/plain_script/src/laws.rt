@@ -1,9 +1,10 @@
 //! Laws of plain scripts: their grammar, and which line is refused.
 
-ghost use Rattle.std.specs.Prelude.{◌≡◌, ◌+◌, ◌<◌, ◌↔◌, ℕ, List, [], Ok, Some, None};
+ghost use Rattle.std.specs.Prelude.{◌≡◌, ◌+◌, ◌<◌, ◌↔◌, ℕ, List, [], length, Ok, Some, None};
 ghost use Rattle.line_text.specs.Lines.{Line};
 ghost use Rattle.plain_script.specs.Reading.{Refused, ScriptTold, first_refused, reading_of};
 ghost use Rattle.plain_script.specs.Positions.{IsFirstBroken, KeepRules};
+ghost use Rattle.plain_script.specs.Rules.{KeepRules as DeclareByRules};
 ghost use Rattle.plain_script.specs.Spelling.{Spells, ScriptLine, SpellScript, IsReadAs};
 ghost use Rattle.plain_script.specs.Statements.{statement_of};
 ghost use Rattle.plain_script.specs.declared.rule.ScriptRule.{ScriptRule};
@@ -92,3 +93,9 @@ pub fn one_reading()
     lines_of_spelled_lines();
     one_list_of_lines();
 }
+
+/// The declarations that are read keep the rules, each behind those before it, and 32 bits count the events.
+pub fn read_by_rules()
+    ensures declared { (script : List ℕ) (told : ScriptTold) → reading_of script ≡ Ok told → DeclareByRules [] told.declarations }
+    ensures few { (script : List ℕ) (told : ScriptTold) → reading_of script ≡ Ok told → length told.events < 4294967295 }
+{}
