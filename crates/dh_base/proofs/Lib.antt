@@ -1,4 +1,5 @@
 pub mod Characters
+pub mod Fields
 pub mod Moving
 pub mod Writing
 pub mod NameReading

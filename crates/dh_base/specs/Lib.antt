@@ -8,3 +8,4 @@ pub mod Refusals
 pub mod Calls
 pub mod Memory
 pub mod BaseFaults
+pub mod Fields

@@ -6,7 +6,10 @@ use std::fmt;
 /// What is wrong with bytes that should be a value of this crate.
 #[derive(Clone, Copy, Debug, PartialEq, Eq)]
 pub enum BaseFault {
-    /// No name stands there. `at` is the first place at which no name goes on.
+    /// The bytes end within the field that begins at `at`.
+    Short { at: u32 },
+    /// No name stands there. `at` is the first place at which no name goes on, and for a field the place
+    /// where the field begins.
     BadName { at: u32 },
 }
 
@@ -19,19 +22,21 @@ impl Refusal for BaseFault {
 
     fn number(&self) -> u16 {
         match self {
+            BaseFault::Short { .. } => 1,
             BaseFault::BadName { .. } => 2,
         }
     }
 
     fn name(&self) -> &'static str {
         match self {
+            BaseFault::Short { .. } => "Short",
             BaseFault::BadName { .. } => "BadName",
         }
     }
 
     fn field(&self, place: usize) -> Option<Field> {
         match (self, place) {
-            (BaseFault::BadName { at }, 0) => Some(Field {
+            (BaseFault::Short { at } | BaseFault::BadName { at }, 0) => Some(Field {
                 label: "at",
                 value: FieldValue::Number(u64::from(*at)),
             }),

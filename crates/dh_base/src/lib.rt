@@ -1,5 +1,6 @@
 //! What the other crates share: names, ids and outcomes; refusals, which tell a number, a name and
-//! fields; and the sources and sinks through which a program reads and writes bytes.
+//! fields; the fields of byte texts, and digests of bytes; and the sources and sinks through which a
+//! program reads and writes bytes.
 //!
 //! [`Source`] and [`Sink`] say what any outside may do: give or take a piece of the bytes, or fail,
 //! which it counts. [`MemSource`] and [`MemSink`] are such outsides in memory, which fail the calls that
@@ -9,30 +10,37 @@
 pub mod base_fault;
 pub mod calls;
 pub mod failure;
+pub mod hash;
 pub mod id;
+pub mod laws;
 pub mod list;
 pub mod mem_sink;
 pub mod mem_source;
 pub mod name;
 pub mod outcome;
+pub mod put;
 pub mod refusal;
 pub mod sink;
 pub mod source;
 pub mod standard;
+pub mod take;
 
 pub use base_fault::BaseFault;
 pub use calls::Calls;
 pub use failure::{Failed, NoMemory};
+pub use hash::digest;
 pub use id::Id;
 pub use list::List;
 pub use mem_sink::MemSink;
 pub use mem_source::MemSource;
 pub use name::Name;
 pub use outcome::Outcome;
+pub use put::{put_id, put_name, put_u8, put_u16, put_u32, put_u64};
 pub use refusal::{Field, FieldValue, Refusal};
 pub use sink::Sink;
 pub use source::Source;
 pub use standard::{ReaderSource, WriterSink};
+pub use take::{take_id, take_name, take_u8, take_u16, take_u32, take_u64};
 
 #[cfg(test)]
 mod tests;

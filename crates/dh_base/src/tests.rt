@@ -76,3 +76,63 @@ fn a_sink_keeps_what_is_written_and_fails_as_told(rt: HostRuntime) -> Result<(),
     assert_eq!(rt; sink.faults(), 1);
     Ok(())
 }
+
+/// The digest of "abc" that FIPS 180-4 works out.
+const ABC: [u8; 32] = [
+    0xba, 0x78, 0x16, 0xbf, 0x8f, 0x01, 0xcf, 0xea, 0x41, 0x41, 0x40, 0xde, 0x5d, 0xae, 0x22, 0x23,
+    0xb0, 0x03, 0x61, 0xa3, 0x96, 0x17, 0x7a, 0x9c, 0xb4, 0x10, 0xff, 0x61, 0xf2, 0x00, 0x15, 0xad,
+];
+
+#[test]
+fn bytes_have_digests(rt: HostRuntime) {
+    assert_eq!(rt; digest(b"abc"), Id(ABC));
+}
+
+#[test]
+fn fields_that_are_put_are_taken(rt: HostRuntime) -> Result<(), Fail> {
+    let mut text = Vec::new(rt.alloc());
+    put_u8(&mut text, 0xfe)?;
+    put_u16(&mut text, 0x0102)?;
+    put_u32(&mut text, 0x03040506)?;
+    put_u64(&mut text, 0x0708090a0b0c0d0e)?;
+    put_id(&mut text, &Id(ABC))?;
+    put_name(&mut text, &name("carol-2")?)?;
+    assert_eq!(rt;
+        &text[..15],
+        [0xfe, 1, 2, 3, 4, 5, 6, 7, 8, 9, 10, 11, 12, 13, 14].as_slice()
+    );
+    assert_eq!(rt; &text[47..], b"\x07carol-2".as_slice());
+    assert_eq!(rt; take_u8(&text, 0), Ok(0xfe));
+    assert_eq!(rt; take_u16(&text, 1), Ok(0x0102));
+    assert_eq!(rt; take_u32(&text, 3), Ok(0x03040506));
+    assert_eq!(rt; take_u64(&text, 7), Ok(0x0708090a0b0c0d0e));
+    assert_eq!(rt; take_id(&text, 15), Ok(Id(ABC)));
+    assert_eq!(rt; take_name(&text, 47)?.as_str(), "carol-2");
+    Ok(())
+}
+
+#[test]
+fn fields_that_are_cut_or_no_names_are_refused(rt: HostRuntime) {
+    assert_eq!(rt; take_u32(b"abcde", 2), Err(BaseFault::Short { at: 2 }));
+    assert_eq!(rt;
+        take_u8(b"", 4294967295),
+        Err(BaseFault::Short { at: 4294967295 })
+    );
+    assert_eq!(rt;
+        take_name(b"\x02a", 0).err(),
+        Some(BaseFault::Short { at: 0 })
+    );
+    assert_eq!(rt; take_name(b"", 0).err(), Some(BaseFault::Short { at: 0 }));
+    assert_eq!(rt;
+        take_name(b".\x11", 1).err(),
+        Some(BaseFault::BadName { at: 1 })
+    );
+    assert_eq!(rt;
+        take_name(b".\x00", 1).err(),
+        Some(BaseFault::BadName { at: 1 })
+    );
+    assert_eq!(rt;
+        take_name(b".\x02a_", 1).err(),
+        Some(BaseFault::BadName { at: 1 })
+    );
+}
