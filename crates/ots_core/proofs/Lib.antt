@@ -1,0 +1,7 @@
+mod Examples
+pub mod Ranges
+pub mod ChainSteps
+pub mod Ends
+pub mod Signed
+pub mod Incomparable
+pub mod SignatureTexts

@@ -1,0 +1,10 @@
+use Rattle.std.proofs.Common.{◌++◌, [], map, get_or}
+use Rattle.std.specs.Int.{w16, w32, to_be_bytes}
+use Rattle.std.specs.List.{range_with_len, concat}
+use Rattle.sha2.specs.Hashers.{Holds256}
+use Rattle.ots_core.specs.Coefficients.{coefficient_of}
+use Rattle.ots_core.specs.Chains.{chain}
+use Rattle.ots_core.proofs.verifying.candidate.Given as goal
+
+abbrev pub invariant-loop-i : goal.invariant-loop-i
+invariant-loop-i l = Holds256 l.hasher (l.ident ++ to_be_bytes w32 l.q ++ to_be_bytes w16 0x8080 ++ concat (map (λ i. chain l.ident l.q i (coefficient_of l.text i) 15 (get_or l.sig.y i [])) (range_with_len 0 l.i)))

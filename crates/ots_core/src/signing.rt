@@ -1,0 +1,42 @@
+//! Signing a message (RFC 8554, section 4.5).
+
+ghost use Rattle.std.specs.Prelude.{◌≡◌};
+ghost use Rattle.ots_core.specs.Keys as keys;
+
+use crate::chain::{CHAINS, SECRET, chain, secret_element};
+use crate::coefficients::{coefficient, with_checksum};
+use crate::hashing::{hash_at, hasher};
+use crate::ots_sig::OtsSig;
+use sha2::{Digest, Sha256};
+
+/// D_MESG: the kind of the text of which a message digest is the hash.
+const MESSAGE: u16 = 0x8181;
+
+/// What stands in the place of a chain's number where a randomizer is made.
+const RANDOMIZER: u16 = 0xfffd;
+
+/// The digest Q of a message under the randomizer `c`.
+pub(crate) fn message_digest(ident: &[u8; 16], q: u32, c: &[u8; 32], msg: &[u8]) -> [u8; 32]
+    ensures { result ≡ keys.message_digest_of ident.now q c.now msg.now }
+{
+    let mut hasher = hasher(ident, q, MESSAGE);
+    hasher.update(c.as_slice());
+    hasher.update(msg);
+    hasher.finalize()
+}
+
+/// The signature of a message by key number `q` of the seed. A key that signs two different messages is
+/// broken, so its holder sees to it that it signs one.
+pub fn sign(seed: &[u8; 32], ident: &[u8; 16], q: u32, msg: &[u8]) -> OtsSig
+    ensures { result ≡ keys.signature_of seed.now ident.now q msg.now }
+{
+    let c = hash_at(ident, q, RANDOMIZER, SECRET, seed);
+    let text = with_checksum(&message_digest(ident, q, &c, msg));
+    let mut y = [[0; 32]; 67];
+    for i in 0..CHAINS {
+        let start = secret_element(seed, ident, q, i);
+        let count = coefficient(&text, i as usize);
+        y[i as usize] = chain(ident, q, i, 0, count, start);
+    }
+    OtsSig { c, y }
+}
