@@ -10,7 +10,7 @@ use Rattle.plain_core.specs.Given.{Gives, GivesStep}
 use Rattle.plain_core.specs.Ledgers.{LedgerTold, World, Answer, behind, first_answers, at_ledger, with_ledgers}
 use Rattle.plain_core.specs.declared.reply.Reply.{Reply}
 
-abbrev is_named : List ℕ → LedgerTold → Bool
+abbrev pub is_named : List ℕ → LedgerTold → Bool
 is_named name ledger = bytes_eq name ledger.name
 
 at_place : (name : List ℕ) (f : LedgerTold → Answer) (unknown : Reply) (ls : List LedgerTold) (k : ℕ) (d : LedgerTold) → k < length ls → is_named name (get_or ls k d) ≡ true → ((j : ℕ) → j < k → is_named name (get_or ls j d) ≡ false) → at_ledger name f unknown ls ≡ record { reply = (f (get_or ls k d)).reply; ledgers = set ls k (f (get_or ls k d)).ledger }

@@ -3,6 +3,7 @@ pub mod Ids
 pub mod Ledgers
 pub mod Openings
 pub mod Rehearsed
+pub mod OneLog
 pub mod Replies
 pub mod Reports
 pub mod Starts

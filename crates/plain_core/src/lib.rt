@@ -5,6 +5,7 @@
 pub mod act_refusal;
 pub mod claim_refusal;
 mod ids;
+pub mod laws;
 pub mod ledger;
 pub mod log_refusal;
 mod openings;
