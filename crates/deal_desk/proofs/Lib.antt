@@ -1,3 +1,4 @@
+pub mod Promise
 pub mod Read
 pub mod Taken
 pub mod Written

@@ -6,6 +6,7 @@ use Rattle.dh_base.specs.Outside.{Gains}
 use Rattle.plain_script.specs.RuleNames.{refused_text}
 use Rattle.plain_script.specs.declared.rule.ScriptRule.{ScriptRule}
 use Rattle.plain_script.specs.Reading.{Refused as RefusedAt}
+use Rattle.plain_core.specs.OneLog.{TellsOneLog}
 use Rattle.plain_core.specs.Reports.{rehearsal_of}
 use Rattle.deal_desk.specs.Inputs.{unread, GaveFront}
 use Rattle.deal_desk.specs.declared.ending.Ending.{Ending}
@@ -96,3 +97,8 @@ IsEnding false ending input input_after output output_after = (input_after ≡ i
 abbrev pub IsEnded : ℕ → List (List ℕ) → (input input_after : SourceSeen) → (output output_after : SinkSeen) → Type 0
 IsEnded status words input input_after output output_after =
     (ending : Ending) × (status ≡ status_of ending) × IsEnding (is_rehearse words) ending input input_after output output_after
+
+-- Where the answer to `rehearse` is 0, what was written is the report of a run of the script, and in this run all ledgers follow the one log.
+abbrev pub KeepsOneLog : ℕ → List (List ℕ) → SourceSeen → (before after : SinkSeen) → Type 0
+KeepsOneLog status words input before after =
+    status ≡ 0 → is_rehearse words ≡ true → IfSome input.left (λ script. (report : List ℕ) × Wrote before report after × TellsOneLog script report)

@@ -1,7 +1,7 @@
 //! The top call.
 
 ghost use Rattle.std.specs.Prelude.{◌≡◌, map, string_bytes, IfOk};
-ghost use Rattle.deal_desk.specs.Endings.{is_rehearse, refused_line, Says, Refuses, IsTold, IsRehearsed, IsEnded};
+ghost use Rattle.deal_desk.specs.Endings.{is_rehearse, refused_line, Says, Refuses, IsTold, IsRehearsed, IsEnded, KeepsOneLog};
 
 use crate::ending::Ending;
 use crate::reading::{ReadHalt, read_script};
@@ -81,9 +81,13 @@ fn rehearse<S: Source, K: Sink>(alloc: Global, input: &mut S, output: &mut K) ->
 /// written, 1 for words that the program does not know, 2 for a script that breaks a rule, 3 and 4 where
 /// the source or the sink fails, and 7 where memory runs out.
 pub fn run<S: Source, K: Sink>(alloc: Global, words: &[String], input: &mut S, output: &mut K) -> u8
-    ensures { IsEnded result (map string_bytes words.now)
+    ensures ended { IsEnded result (map string_bytes words.now)
         (record { left = S.left input.old; faults = S.faults input.old })
         (record { left = S.left input.new; faults = S.faults input.new })
+        (record { written = K.written output.old; faults = K.faults output.old })
+        (record { written = K.written output.new; faults = K.faults output.new }) }
+    ensures one_log { KeepsOneLog result (map string_bytes words.now)
+        (record { left = S.left input.old; faults = S.faults input.old })
         (record { written = K.written output.old; faults = K.faults output.old })
         (record { written = K.written output.new; faults = K.faults output.new }) }
 {
