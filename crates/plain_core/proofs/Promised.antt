@@ -1,5 +1,5 @@
 -- What every run keeps to, and that a report is that of its run.
-use Rattle.std.proofs.Common.{◌≡◌, ℕ, ◌+◌, ◌<◌, Bool, true, false, cond, Some, Result, Ok, Err, List, [], ◌∷◌, ◌++◌, map, length, take, drop, refl, sym, ap, subst, ◌∙◌, inl, inr, ◌⊎◌, arith, append_assoc}
+use Rattle.std.proofs.Common.{◌≡◌, ℕ, ◌+◌, ◌<◌, ◌≤◌, Bool, true, false, cond, Some, Result, Ok, Err, List, [], ◌∷◌, ◌++◌, map, length, take, drop, refl, sym, ap, subst, ◌∙◌, inl, inr, ◌⊎◌, arith, append_assoc}
 use Rattle.std.specs.Prelude.{flat_map, Contains}
 use Rattle.std.proofs.lemmas.List.{take-append-drop}
 use Rattle.dh_base.specs.declared.id.Id.{Id}
@@ -7,7 +7,7 @@ use Rattle.dh_base.specs.declared.outcome.Outcome.{Outcome}
 use Rattle.escrow_book.specs.declared.change.Change.TheVariants as change
 use Rattle.escrow_book.specs.History.{History}
 use Rattle.escrow_book.specs.Reached.{IsReached}
-use Rattle.escrow_book.specs.Conserved.{AreItsAccounts, IsConserved}
+use Rattle.escrow_book.specs.Conserved.{AreItsAccounts, IsConserved, settlements_of}
 use Rattle.vote_log.specs.declared.decision.Decision.{Decision}
 use Rattle.vote_log.specs.Entry.{Entry}
 use Rattle.vote_log.specs.Log.{Log}
@@ -36,6 +36,7 @@ pub record RunLaws : Type 0 where
   pub growth : GrowthLaws
   pub pays : PayLaw
   pub conserved : (h : History) (accounts : List Id) (x : List ℕ) → IsReached h → AreItsAccounts h accounts → IsConserved h accounts x
+  pub once : (h : History) (d : Id) → IsReached h → settlements_of h d ≤ 1
   pub stays : (log more : List Entry) (deal : Id) (decision : Decision) → outcome_of log deal ≡ Some decision → outcome_of (log ++ more) deal ≡ Some decision
 
 -- ---- a report is that of its run
@@ -185,7 +186,7 @@ contains_map f (x ∷ xs) y there =
 keeps_assets : RunLaws → (ds : List Declaration) (n : ℕ) (ledgers : List LedgerTold) → AreSound ds n ledgers → (ledger : LedgerTold) → Contains ledgers ledger → KeepsAssets ds ledger
 keeps_assets laws ds n ledgers sound ledger there =
     let s = sound ledger there in
-    record { opening = s.opening; conserved = λ accounts asset its. laws.conserved ledger.history accounts asset s.reached its }
+    record { opening = s.opening; conserved = λ accounts asset its. laws.conserved ledger.history accounts asset s.reached its; once = λ d. laws.once ledger.history d s.reached }
 
 pub follows_one_log : RunLaws → (ds : List Declaration) → KeepRules [] ds → (events : List Numbered) → length events < 4294967295 → ((moment : Moment) → Contains (moments_from ds (started_world ds) events) moment → is_out_of_range moment.before moment.happened.event ≡ false) → FollowsOneLog ds (run_between (started_world ds) (moments_from ds (started_world ds) events))
 follows_one_log laws ds keep events room range = record {

@@ -3,6 +3,8 @@ use Rattle.std.proofs.Common.{◌≡◌, ℕ, Result, Ok, Err, List, ◌++◌, r
 use Rattle.std.specs.Prelude.{flat_map}
 use Rattle.escrow_book.specs.declared.change.Change.TheVariants.{Registered, Escrowed, Settled}
 use Rattle.escrow_book.proofs.Growing.{transfer_grows}
+use Rattle.escrow_book.specs.History.{settlement}
+use Rattle.escrow_book.proofs.Once.{settled_once, one_answers}
 use Rattle.escrow_book.proofs.Paying.{pays}
 use Rattle.escrow_book.proofs.Steps.{reached_push}
 use Rattle.escrow_book.proofs.Totals.{is_conserved}
@@ -45,6 +47,7 @@ run_laws = record {
   };
   pays = pays;
   conserved = λ h accounts x r its. is_conserved h.opening h.changes r x accounts its;
+  once = λ h d r. one_answers (settlement d) h.changes (settled_once h.opening h.changes d r);
   stays = stays;
 }
 

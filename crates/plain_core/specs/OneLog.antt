@@ -6,7 +6,7 @@ use Rattle.dh_base.specs.declared.outcome.Outcome.{Outcome}
 use Rattle.dh_base.specs.declared.outcome.Outcome.TheVariants.{Commit, Abort}
 use Rattle.escrow_book.specs.declared.change.Change.TheVariants as change
 use Rattle.escrow_book.specs.History.{History, with_change, is_known, settlement_of, if_commit_of, if_abort_of, free_of}
-use Rattle.escrow_book.specs.Conserved.{AreItsAccounts, IsConserved}
+use Rattle.escrow_book.specs.Conserved.{AreItsAccounts, IsConserved, settlements_of}
 use Rattle.vote_log.specs.Entry.{Entry}
 use Rattle.vote_log.specs.Deciding.{outcome_of}
 use Rattle.plain_script.specs.Reading.{ScriptTold, reading_of}
@@ -111,10 +111,11 @@ pub record EndsSettled (run : Run) (ledger : LedgerTold) (deal : Id) (outcome : 
 -- ---- the promise
 
 -- A ledger has the opening rows of the script, and what its accounts can spend and what is owned in open deals is together
--- what these rows opened, whichever of its two owners each escrowed amount is counted with.
+-- what these rows opened, whichever of its two owners each escrowed amount is counted with. No deal is settled twice there.
 pub record KeepsAssets (ds : List Declaration) (ledger : LedgerTold) : Type 0 where
   pub opening : ledger.history.opening ≡ rows_of ds ledger.name
   pub conserved : (accounts : List Id) (asset : List ℕ) → AreItsAccounts ledger.history accounts → IsConserved ledger.history accounts asset
+  pub once : (deal : Id) → settlements_of ledger.history deal ≤ 1
 
 -- A claim whose prefix of the log decides a deal that is open on that ledger is answered by that outcome.
 abbrev pub IsAccepted : Moment → Type 0
@@ -138,7 +139,7 @@ pub record FollowsOneLog (ds : List Declaration) (run : Run) : Type 0 where
       → (ledger deal : List ℕ) × IsSettlement moment ledger deal outcome
   -- a deciding claim is accepted the first time
   pub accepted : (moment : Moment) → Contains run.moments moment → IsAccepted moment
-  -- nothing is made or lost on any ledger at any time
+  -- nothing is made or lost on any ledger at any time, and nothing is paid out twice
   pub conserved : (world : World) (ledger : LedgerTold) → Contains (worlds_of run) world → Contains world.ledgers ledger → KeepsAssets ds ledger
 
 -- ---- its report
