@@ -14,16 +14,17 @@ use run::run;
 use std::process::ExitCode;
 use std::{env, io};
 
-/// The words behind the program's own name.
+/// The words behind the program's own name. Where one is no text there are none, and so none that the program
+/// knows.
 fn words(rt: &HostRuntime) -> Result<Vec<String>, NoMemory> {
-    let Ok(all) = env::args(rt) else {
-        return Err(NoMemory);
-    };
     let mut words = Vec::new(rt.alloc());
-    for (place, word) in all.enumerate() {
-        if place > 0 {
-            words.push(word)?;
-        }
+    let all = match env::args(rt) {
+        Ok(all) => all,
+        Err(error) if error.kind() == io::ErrorKind::OutOfMemory => return Err(NoMemory),
+        Err(_) => return Ok(words),
+    };
+    for word in all.skip(1) {
+        words.push(word)?;
     }
     Ok(words)
 }
