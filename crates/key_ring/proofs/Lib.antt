@@ -1,0 +1,4 @@
+pub mod RingTexts
+pub mod MadeRings
+pub mod EnvelopeFields
+pub mod Checked
