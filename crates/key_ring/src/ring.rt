@@ -79,7 +79,6 @@ fn said_size(ring: &[u8]) -> u16
 /// How many keys the ring has, or the place of its first fault.
 #[tactic(auto, unfolding(crate::specs::Rings::ring_size_of))]
 pub(crate) fn ring_size(ring: &[u8]) -> Result<u16, u32>
-    requires { length ring.now < 2 ^ 32 }
     ensures size { result ≡ ring_size_of ring.now }
     ensures bytes { AreBytes ring.now }
 {

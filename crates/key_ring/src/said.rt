@@ -21,7 +21,6 @@ pub struct Said {
 
 /// What the envelope says, or why it says nothing.
 fn answer(env: &Envelope) -> Result<Said, EnvFault>
-    requires { length env.now.ring < 2 ^ 32 }
     ensures { IsAnswer env.now result }
 {
     let ring = env.ring.as_slice();
@@ -51,7 +50,6 @@ fn answer(env: &Envelope) -> Result<Said, EnvFault>
 /// The account and the key number under which the envelope says its message. Every reader of acts,
 /// statements and claims asks it before it looks at a message.
 pub fn check(env: &Envelope) -> Result<Said, EnvFault>
-    requires { length env.now.ring < 2 ^ 32 }
     ensures says { (said : Said) → (result ≡ Ok said) ↔ Says env.now said.account.0 said.q env.now.message }
     ensures bad_ring { (at : ℕ) → (result ≡ Err (EnvFault.BadRing at)) ↔ (ring_of env.now.ring ≡ Err at) }
     ensures key_outside { (q n : ℕ) → (result ≡ Err (EnvFault.KeyOutside q n)) ↔ IsKeyOutside env.now q n }
