@@ -1,0 +1,48 @@
+-- What a fault of kept rows tells, and why it comes.
+use Rattle.std.specs.Prelude.{ℕ, ◌≡◌, Bool, false, List, [], ◌∷◌, codes, length, ◌≤◌, Option, Some, IfSome}
+use Rattle.std.specs.FinMap.{get}
+use Rattle.std.proofs.Common.{lit≤}
+use Rattle.sha2.specs.Sha256.{sha256}
+use Rattle.dh_base.specs.Refusals.{Told}
+use Rattle.dh_base.specs.Faults.{HasRisen}
+use Rattle.dh_base.specs.declared.id.Id.{Id}
+use Rattle.dh_base.specs.declared.refusal.FieldValue.TheVariants.{Number, Hash}
+use Rattle.keeper_core.specs.declared.store_fault.StoreFault.{StoreFault}
+use Rattle.keeper_core.specs.declared.store_fault.StoreFault.TheVariants.{Keeper, BadRow, NoMemory}
+use Rattle.keeper_core.specs.declared.keep_fault.KeepFault.{KeepFault}
+use Rattle.keeper_core.specs.declared.keep_fault.KeepFault.TheVariants.{Failed, NoMemory as KeeperNoMemory}
+use Rattle.keeper_core.specs.Tables.{Tables}
+
+abbrev pub store_fault_told : StoreFault → Told
+store_fault_told Keeper = record { number = 1; name = codes "Keeper"; fields = [] }
+store_fault_told (BadRow tab key) = record { number = 2; name = codes "BadRow"; fields = record { label = codes "tab"; value = Number tab } ∷ record { label = codes "key"; value = Hash key } ∷ [] }
+store_fault_told NoMemory = record { number = 3; name = codes "NoMemory"; fields = [] }
+
+pub few_store_fields : (fault : StoreFault) → length (store_fault_told fault).fields ≤ 4
+few_store_fields Keeper = lit≤ tt
+few_store_fields (BadRow tab key) = lit≤ tt
+few_store_fields NoMemory = lit≤ tt
+
+-- the fault that names a row by its table and the digest of its key
+abbrev pub bad_row_of : ℕ → List ℕ → StoreFault
+bad_row_of tab key = BadRow tab (record { 0 = sha256 key })
+
+-- A row of the table whose key has that digest fails the test of forms, and stands in the map where that is told.
+pub record IsBadRow (has_form : ℕ → List ℕ → List ℕ → Bool) (told : Option Tables) (tab : ℕ) (digest : Id) : Type 0 where
+  pub key : List ℕ
+  pub val : List ℕ
+  pub named : digest.0 ≡ sha256 key
+  pub unformed : has_form tab key val ≡ false
+  pub stands : IfSome told (λ tables. get tables (tab, key) ≡ Some val)
+
+-- Why a call over a keeper answers a fault: the keeper's count rose in that call, or the row that is named has not its
+-- form. Want of memory has no cause here.
+abbrev pub HasCause : (ℕ → List ℕ → List ℕ → Bool) → Option Tables → ℕ → ℕ → StoreFault → Type 0
+HasCause has_form told before after Keeper = HasRisen before after
+HasCause has_form told before after (BadRow tab key) = IsBadRow has_form told tab key
+HasCause has_form told before after NoMemory = Unit {0}
+
+-- the fault of a keeper's call, handed on
+abbrev pub store_fault_of : KeepFault → StoreFault
+store_fault_of Failed = Keeper
+store_fault_of KeeperNoMemory = NoMemory

@@ -1,0 +1,196 @@
+//! A keeper in memory.
+
+ghost use Rattle.std.specs.Prelude.{◌≡◌, ◌↔◌, ◌≤◌, ◌⊎◌, Some, None, true, false, Ok, IfOk, OnOk, OnErr, IsErr, IsTrue, if◌then◌else◌};
+ghost use Rattle.std.specs.Option.{option_copied};
+ghost use Rattle.std.specs.Result.{IsErrOf};
+ghost use Rattle.std.specs.FinMap as finite;
+ghost use Rattle.dh_base.specs.Faults.{HasRisen};
+ghost use Rattle.keeper_core.specs.Batches.{after_batch};
+ghost use Rattle.keeper_core.specs.Keeping.{AnswersByMap, ListsTable, Applies, AppliesNoneOrAll};
+ghost use Rattle.keeper_core.specs.Memory.{fails_next, after_failure, after_reading, stopped_with, failure_of_commit, after_commit};
+
+use crate::arm::Arm;
+use crate::batch::Batch;
+use crate::cells::Cells;
+use crate::keep_fault::KeepFault;
+use crate::keeper::Keeper;
+use crate::row::Row;
+use dh_base::{Failed, List, NoMemory};
+use std::alloc::Global;
+use std::marker::Model;
+
+/// A keeper in memory. It tells its map, and fails and stops where it is told to.
+#[derive(Drop)]
+pub struct MemKeeper {
+    alloc: Global,
+    cells: Cells,
+    armed: Option<Arm>,
+    stopped: bool,
+    faults: u64,
+}
+
+impl Model for MemKeeper {
+    ghost use Rattle.keeper_core.specs.Memory.{KeeperTold, keeper_code};
+
+    ghost Value = { KeeperTold };
+
+    ghost coded = { keeper_code };
+
+    ghost use Rattle.keeper_core.specs.Slots.{filled};
+
+    ghost view = { λ k. record { tables = filled k.cells; armed = k.armed; stopped = k.stopped; faults = k.faults } };
+}
+
+impl MemKeeper {
+    /// A keeper of no rows, which runs and is not armed.
+    pub fn new(alloc: Global) -> MemKeeper
+        ensures { result ≡ record { tables = finite.empty; armed = None; stopped = false; faults = 0 } }
+    {
+        MemKeeper {
+            alloc,
+            cells: Cells::new(alloc),
+            armed: None,
+            stopped: false,
+            faults: 0,
+        }
+    }
+
+    /// Tells the keeper to fail or to stop. What it was told before and hasn't done yet is forgotten.
+    pub fn arm(&mut self, what: Arm)
+        ensures { self.new ≡ record self.old { armed = Some what } }
+    {
+        self.armed = Some(what);
+    }
+
+    /// Starts the keeper again, if it has stopped, and disarms it.
+    pub fn restart(&mut self)
+        ensures { self.new ≡ record self.old { armed = None; stopped = false } }
+    {
+        self.armed = None;
+        self.stopped = false;
+    }
+
+    /// Whether the keeper has stopped.
+    pub fn has_stopped(&self) -> bool
+        ensures { result ≡ self.now.stopped }
+    {
+        self.stopped
+    }
+
+    /// The bytes at a key of a table, also where the keeper has stopped. It takes no memory and never fails.
+    pub fn peek(&self, tab: u8, key: &[u8]) -> Option<&[u8]>
+        ensures { option_copied result ≡ finite.get self.now.tables (tab, key.now) }
+    {
+        self.cells.get(tab, key)
+    }
+
+    /// How many calls have failed.
+    pub fn faults(&self) -> u64
+        ensures { result ≡ self.now.faults }
+    {
+        self.faults
+    }
+
+    /// Lets a call begin, or fails it.
+    fn begin(&mut self) -> Result<(), Failed>
+        ensures fails { IsErr result ↔ IsTrue (fails_next self.old) }
+        ensures after { self.new ≡ after_reading self.old }
+    {
+        let fails = matches!(self.armed, Some(Arm::FailNext));
+        if fails {
+            self.armed = None;
+        }
+        if fails || self.stopped {
+            self.faults = self.faults.saturating_add(1);
+            return Err(Failed);
+        }
+        Ok(())
+    }
+
+    /// Stops the keeper as it is.
+    fn stop(&mut self) -> KeepFault
+        ensures fault { result ≡ KeepFault.Failed }
+        ensures stopped { self.new ≡ stopped_with self.old.tables self.old }
+    {
+        self.armed = None;
+        self.stopped = true;
+        self.faults = self.faults.saturating_add(1);
+        KeepFault::Failed
+    }
+
+    /// Makes all changes of a batch, or none.
+    fn apply(&mut self, batch: &Batch) -> Result<(), NoMemory>
+        ensures ok { OnOk result (self.new ≡ after_commit batch.now self.old) }
+        ensures err { OnErr result (self.new ≡ self.old) }
+    {
+        self.cells.apply(batch)
+    }
+}
+
+impl Keeper for MemKeeper {
+    ghost tables = { λ k. Some k.tables };
+
+    ghost stopped = { λ k. k.stopped };
+
+    ghost faults = { λ k. k.faults };
+
+    fn get(&mut self, tab: u8, key: &[u8]) -> Result<Option<List<u8>>, KeepFault>
+        ensures answers { IfOk result (AnswersByMap (Some self.old.tables) tab key.now) }
+        ensures failed { IsErrOf result KeepFault.Failed → HasRisen self.old.faults self.new.faults }
+        ensures unchanged { Some self.new.tables ≡ Some self.old.tables }
+        ensures same_stop { self.new.stopped ≡ self.old.stopped }
+        ensures stopped { IsTrue self.old.stopped → IsErrOf result KeepFault.Failed }
+        ensures count { self.old.faults ≤ self.new.faults }
+        ensures told { IsErrOf result KeepFault.Failed ↔ IsTrue (fails_next self.old) }
+        ensures after { self.new ≡ after_reading self.old }
+    {
+        self.begin()?;
+        let val = self.cells.read(tab, key)?;
+        Ok(val)
+    }
+
+    fn scan(&mut self, tab: u8) -> Result<List<Row>, KeepFault>
+        ensures lists { IfOk result (ListsTable (Some self.old.tables) tab) }
+        ensures failed { IsErrOf result KeepFault.Failed → HasRisen self.old.faults self.new.faults }
+        ensures unchanged { Some self.new.tables ≡ Some self.old.tables }
+        ensures same_stop { self.new.stopped ≡ self.old.stopped }
+        ensures stopped { IsTrue self.old.stopped → IsErrOf result KeepFault.Failed }
+        ensures count { self.old.faults ≤ self.new.faults }
+        ensures told { IsErrOf result KeepFault.Failed ↔ IsTrue (fails_next self.old) }
+        ensures after { self.new ≡ after_reading self.old }
+    {
+        self.begin()?;
+        let rows = self.cells.rows(tab)?;
+        Ok(List::from_vec(rows))
+    }
+
+    /// Where memory is refused, a stop for which the keeper is armed is still to come.
+    fn commit(&mut self, batch: &Batch) -> Result<(), KeepFault>
+        ensures applies { OnOk result (Applies (Some self.old.tables) batch.now (Some self.new.tables)) }
+        ensures none_or_all { OnErr result (AppliesNoneOrAll (Some self.old.tables) batch.now (Some self.new.tables)) }
+        ensures unchanged { OnErr result (self.new.stopped ≡ self.old.stopped
+            → Some self.new.tables ≡ Some self.old.tables) }
+        ensures failed { IsErrOf result KeepFault.Failed → HasRisen self.old.faults self.new.faults }
+        ensures same_stop { IsErrOf result KeepFault.Failed ⊎ (self.new.stopped ≡ self.old.stopped) }
+        ensures stopped { IsTrue self.old.stopped
+            → IsErrOf result KeepFault.Failed × IsTrue self.new.stopped }
+        ensures count { self.old.faults ≤ self.new.faults }
+        ensures told { OnOk result (failure_of_commit batch.now self.old ≡ None) }
+        ensures ok { OnOk result (self.new ≡ after_commit batch.now self.old) }
+        ensures fails { IsErrOf result KeepFault.Failed → failure_of_commit batch.now self.old ≡ Some self.new }
+        ensures no_memory { IsErrOf result KeepFault.NoMemory → self.new ≡ self.old }
+    {
+        self.begin()?;
+        match self.armed {
+            Some(Arm::StopBefore) => Err(self.stop()),
+            Some(Arm::StopAfter) => {
+                self.apply(batch)?;
+                Err(self.stop())
+            }
+            Some(Arm::FailNext) | None => {
+                self.apply(batch)?;
+                Ok(())
+            }
+        }
+    }
+}
