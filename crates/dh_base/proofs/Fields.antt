@@ -50,13 +50,11 @@ StandsAt-parts x y bytes at s =
     (StandsAt-front x (y ++ rest) bytes at (omega arith) whole, StandsAt-front y rest bytes (at + length x) (omega arith) behind)
 
 -- the text that stands in its own place
-pub StandsAt-within : (before text after : List ℕ) → StandsAt text (before ++ (text ++ after)) (length before)
+pub StandsAt-within : (before text after : List ℕ) → StandsAt text (before ++ text ++ after) (length before)
 StandsAt-within before text after =
-    StandsAt-front text after (before ++ (text ++ after)) (length before) (omega (arith, length-append before (text ++ after))) (drop_at before (text ++ after) (length before) refl)
-
--- one place has one text of a length
-pub StandsAt-one : (x y bytes : List ℕ) (at : ℕ) → length x ≡ length y → StandsAt x bytes at → StandsAt y bytes at → x ≡ y
-StandsAt-one x y bytes at e sx sy = sym sx.here ∙ ap (λ (n : ℕ). take n (drop at bytes)) e ∙ sy.here
+    let there : drop (length before) (before ++ text ++ after) ≡ text ++ after = ap (drop (length before)) (append_assoc before text after) ∙ drop_at before (text ++ after) (length before) refl in
+    let long : length before ≤ length (before ++ text ++ after) = omega (arith, length-append (before ++ text) after, length-append before text) in
+    StandsAt-front text after (before ++ text ++ after) (length before) long there
 
 -- ---- bytes of a given number
 

@@ -1,10 +1,21 @@
-//! Laws of the fields of byte texts: a field that stands at a place is the one that is taken there, and
-//! no other is.
+//! Laws of the fields of byte texts: what is put stands where the text ended before, and a field that
+//! stands at a place is the one that is taken there, and no other is.
 
-ghost use Rattle.std.specs.Prelude.{◌≡◌, ◌↔◌, ℕ, List, length, Ok, IsTrue};
+ghost use Rattle.std.specs.Prelude.{◌≡◌, ◌↔◌, ◌+◌, ◌++◌, ℕ, List, length, Ok, IsTrue};
 ghost use Rattle.std.specs.Int.{w8, w16, w32, w64};
 ghost use Rattle.dh_base.specs.Names.{is_name};
 ghost use Rattle.dh_base.specs.Fields.{AreBytes, StandsAt, TakenWhereItStands, bytes_at, name_field, name_at};
+
+/// What is put stands where the text ended before, whatever is put behind it.
+pub fn put_stands()
+    ensures { (before field behind : List ℕ) → StandsAt field (before ++ field ++ behind) (length before) }
+{}
+
+/// Two texts stand one behind the other exactly where they stand joined.
+pub fn joined_stand()
+    ensures { (first second bytes : List ℕ) (at : ℕ) →
+        StandsAt (first ++ second) bytes at ↔ (StandsAt first bytes at × StandsAt second bytes (at + length first)) }
+{}
 
 /// A number is taken at a place exactly where it stands there.
 pub fn numbers_taken()
