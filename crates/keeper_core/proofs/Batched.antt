@@ -13,10 +13,10 @@ use Rattle.keeper_core.specs.Batches.{cell_of, value_of, after_change, after_bat
 use Rattle.keeper_core.proofs.Numbered.{cells_total, exact_cells, equal_of}
 use Rattle.keeper_core.proofs.Changing.{after_batch-append}
 
-at_itself : (cell : Cell) → eq_by_cmp cell_cmp cell cell ≡ true
+pub at_itself : (cell : Cell) → eq_by_cmp cell_cmp cell cell ≡ true
 at_itself cell = rw (tied_itself cells_total cell) refl
 
-at_others : (cell other : Cell) → (other ≡ cell → ⊥) → eq_by_cmp cell_cmp cell other ≡ false
+pub at_others : (cell other : Cell) → (other ≡ cell → ⊥) → eq_by_cmp cell_cmp cell other ≡ false
 at_others cell other ne = elim (cases_Bool (eq_by_cmp cell_cmp cell other)) [
   | inl same ↦ absurd (ne (sym (exact_cells cell other (equal_of _ same))))
   | inr apart ↦ apart

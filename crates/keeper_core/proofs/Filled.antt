@@ -24,7 +24,7 @@ lt_not_eq Less h = refl
 lt_not_eq Equal h = absurd h
 lt_not_eq Greater h = refl
 
-find_below : {X : Type 0} (cell : Cell) (es : List (Cell × X)) → T (below_all cell_cmp cell es) → find cell_cmp cell es ≡ None
+pub find_below : {X : Type 0} (cell : Cell) (es : List (Cell × X)) → T (below_all cell_cmp cell es) → find cell_cmp cell es ≡ None
 find_below cell [] h = refl
 find_below cell (e ∷ es) h = rw (lt_not_eq (cell_cmp cell e.0) (first_of _ _ h)) (find_below cell es (second_of _ _ h))
 

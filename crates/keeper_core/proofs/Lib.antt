@@ -4,4 +4,7 @@ pub mod Filled
 pub mod Listed
 pub mod Changing
 pub mod Batched
+pub mod Scanned
+pub mod Shelves
+pub mod Naming
 pub mod Rows

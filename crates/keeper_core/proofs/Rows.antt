@@ -72,3 +72,8 @@ rows_shown_full {A} shown key slot val is =
 pub rows_shown_empty : {A : Type 0} (shown : List (Bor (Vec ℕ A) × Bor (Option (Vec ℕ A)))) (key : Bor (Vec ℕ A)) (slot : Bor (Option (Vec ℕ A))) → slot.now ≡ None → rows_in (bare (map deref_pair (shown ++ (key, slot) ∷ []))) ≡ rows_in (bare (map deref_pair shown))
 rows_shown_empty {A} shown key slot is =
     ap (λ (es : List (Vec ℕ A × Option (Vec ℕ A))). rows_in (bare es)) (map-append deref_pair shown ((key, slot) ∷ [])) ∙ rows_more_empty (map deref_pair shown) key.now slot.now is
+
+-- a row is pushed for each full slot that is shown
+pub rows_pushed : {A : Type 0} (before after : List Row) (row : Row) (shown : List (Bor (Vec ℕ A) × Bor (Option (Vec ℕ A)))) (key : Bor (Vec ℕ A)) (slot : Bor (Option (Vec ℕ A))) (val : Vec ℕ A) → after ≡ before ++ row ∷ [] → before ≡ rows_in (bare (map deref_pair shown)) → row ≡ record { key = key.now.items; val = val.items } → slot.now ≡ Some val → after ≡ rows_in (bare (map deref_pair (shown ++ (key, slot) ∷ [])))
+rows_pushed before after row shown key slot val pushed so_far is full =
+    pushed ∙ ap (λ (rows : List Row). rows ++ row ∷ []) so_far ∙ ap (λ (r : Row). rows_in (bare (map deref_pair shown)) ++ r ∷ []) is ∙ sym (rows_shown_full shown key slot val full)

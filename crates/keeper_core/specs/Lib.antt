@@ -1,8 +1,12 @@
 pub mod Tables
 pub mod Batches
+pub mod Scans
 pub mod Keeping
 pub mod Slots
 pub mod Laying
 pub mod Rooms
 pub mod Memory
+pub mod Storing
+pub mod MemoryStore
+pub mod Shelving
 pub mod StoreFaults

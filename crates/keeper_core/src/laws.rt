@@ -1,6 +1,7 @@
 //! What holds of every batch and every scan.
 
 ghost use Rattle.keeper_core.specs.Batches.{LaterWins, OthersStay};
+ghost use Rattle.keeper_core.specs.Scans.{ScansAscend, ScansListTheMap};
 
 /// Of the changes on one cell, the last decides what the cell has.
 pub fn later_wins()
@@ -10,4 +11,14 @@ pub fn later_wins()
 /// A cell that no change of a batch is on has what it had.
 pub fn others_stay()
     ensures { OthersStay }
+{}
+
+/// The rows of a table are in ascending order of their keys.
+pub fn scans_ascend()
+    ensures { ScansAscend }
+{}
+
+/// The rows of a table are those that the map has in it.
+pub fn scans_list_the_map()
+    ensures { ScansListTheMap }
 {}

@@ -7,7 +7,9 @@
 //! - `keeper`: the trait of keepers
 //! - `laws`: what holds of every batch
 //! - `mem_keeper`: a keeper in memory, over `cells` and `table`
+//! - `mem_store`: a store of keepers in memory
 //! - `row`: a row of a table
+//! - `store`: the trait of stores, from which keepers are taken by name
 //! - `store_fault`: what a call over kept rows refuses
 #![tactic(auto)]
 
@@ -19,7 +21,9 @@ pub mod keep_fault;
 pub mod keeper;
 pub mod laws;
 pub mod mem_keeper;
+pub mod mem_store;
 pub mod row;
+pub mod store;
 pub mod store_fault;
 mod table;
 
@@ -29,7 +33,9 @@ pub use change::Change;
 pub use keep_fault::KeepFault;
 pub use keeper::Keeper;
 pub use mem_keeper::MemKeeper;
+pub use mem_store::MemStore;
 pub use row::Row;
+pub use store::Store;
 pub use store_fault::StoreFault;
 
 #[cfg(test)]

@@ -7,6 +7,7 @@ ghost use Rattle.std.specs.FinMap as finite;
 ghost use Rattle.dh_base.specs.Faults.{HasRisen};
 ghost use Rattle.keeper_core.specs.Batches.{after_batch};
 ghost use Rattle.keeper_core.specs.Keeping.{AnswersByMap, ListsTable, Applies, AppliesNoneOrAll};
+ghost use Rattle.keeper_core.specs.Slots.{filled};
 ghost use Rattle.keeper_core.specs.Memory.{fails_next, after_failure, after_reading, stopped_with, failure_of_commit, after_commit};
 
 use crate::arm::Arm;
@@ -46,13 +47,34 @@ impl MemKeeper {
     pub fn new(alloc: Global) -> MemKeeper
         ensures { result ≡ record { tables = finite.empty; armed = None; stopped = false; faults = 0 } }
     {
+        MemKeeper::over(alloc, Cells::new(alloc))
+    }
+
+    /// The keeper of the rows in these slots, which runs and is not armed.
+    pub(crate) fn over(alloc: Global, cells: Cells) -> MemKeeper
+        ensures { result ≡ record { tables = filled cells; armed = None; stopped = false; faults = 0 } }
+    {
         MemKeeper {
             alloc,
-            cells: Cells::new(alloc),
+            cells,
             armed: None,
             stopped: false,
             faults: 0,
         }
+    }
+
+    /// The slots with the rows.
+    pub(crate) fn into_cells(self) -> Cells
+        ensures { filled result ≡ self.tables }
+    {
+        let MemKeeper {
+            alloc: _,
+            cells,
+            armed: _,
+            stopped: _,
+            faults: _,
+        } = self;
+        cells
     }
 
     /// Tells the keeper to fail or to stop. What it was told before and hasn't done yet is forgotten.
@@ -145,8 +167,7 @@ impl Keeper for MemKeeper {
         ensures after { self.new ≡ after_reading self.old }
     {
         self.begin()?;
-        let val = self.cells.read(tab, key)?;
-        Ok(val)
+        Ok(self.cells.read(tab, key)?)
     }
 
     fn scan(&mut self, tab: u8) -> Result<List<Row>, KeepFault>

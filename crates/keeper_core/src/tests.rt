@@ -199,3 +199,72 @@ fn a_bad_row_is_named(rt: HostRuntime) -> Result<(), Fail> {
     );
     Ok(())
 }
+
+fn store(alloc: Global, fails: &[u32]) -> Result<MemStore, NoMemory> {
+    Ok(MemStore::new(alloc, List::from_vec(fails.to_vec(alloc)?)))
+}
+
+#[test]
+fn a_store_gives_each_name_its_map(rt: HostRuntime) -> Result<(), Fail> {
+    let alloc = rt.alloc();
+    let mut store = store(alloc, &[])?;
+    let mut left = store.keep("left")?;
+    left.commit(&one_put(alloc)?)?;
+    let right = store.keep("right")?;
+    assert!(rt; right.peek(2, b"a").is_none());
+    store.back("left", left);
+    store.back("right", right);
+    let left = store.keep("left")?;
+    assert!(rt; has(&left, b"a", b"new"));
+    let again = store.keep("left")?;
+    assert!(rt; again.peek(2, b"a").is_none());
+    store.back("right", left);
+    let right = store.keep("right")?;
+    assert!(rt; has(&right, b"a", b"new"));
+    assert_eq!(rt; store.faults(), 0);
+    Ok(())
+}
+
+#[test]
+fn each_call_of_a_store_fails_where_it_is_told_to(rt: HostRuntime) -> Result<(), Fail> {
+    let mut store = store(rt.alloc(), &[0, 2])?;
+    assert_eq!(rt; store.keep("a").err(), Some(KeepFault::Failed));
+    let kept = store.keep("a")?;
+    store.back("a", kept);
+    assert_eq!(rt; store.keep("a").err(), Some(KeepFault::Failed));
+    assert_eq!(rt; store.faults(), 2);
+    let _kept = store.keep("a")?;
+    assert_eq!(rt; store.faults(), 2);
+    Ok(())
+}
+
+#[test]
+fn a_keeper_that_comes_back_brings_its_faults_and_runs_again(rt: HostRuntime) -> Result<(), Fail> {
+    let alloc = rt.alloc();
+    let mut store = store(alloc, &[])?;
+    let mut kept = store.keep("a")?;
+    kept.arm(Arm::StopAfter);
+    assert_eq!(rt; kept.commit(&one_put(alloc)?), Err(KeepFault::Failed));
+    assert_eq!(rt; kept.get(2, b"a").err(), Some(KeepFault::Failed));
+    store.back("a", kept);
+    assert_eq!(rt; store.faults(), 2);
+    let mut kept = store.keep("a")?;
+    assert_eq!(rt; kept.faults(), 0);
+    let new = kept.get(2, b"a")?;
+    assert!(rt; are(&new, b"new"));
+    Ok(())
+}
+
+#[test]
+fn a_keeper_of_an_unknown_name_brings_its_faults_alone(rt: HostRuntime) -> Result<(), Fail> {
+    let alloc = rt.alloc();
+    let mut store = store(alloc, &[])?;
+    let mut kept = filled(alloc)?;
+    kept.arm(Arm::FailNext);
+    assert_eq!(rt; kept.scan(2).err(), Some(KeepFault::Failed));
+    store.back("never kept", kept);
+    assert_eq!(rt; store.faults(), 1);
+    let kept = store.keep("never kept")?;
+    assert!(rt; kept.peek(2, b"a").is_none());
+    Ok(())
+}

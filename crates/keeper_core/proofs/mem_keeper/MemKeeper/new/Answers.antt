@@ -10,4 +10,4 @@ start_with tables = record { tables = tables; armed = None; stopped = false; fau
 
 pub returns : goal.returns
 unfolding start_with
-returns c = ap start_with (ap filled c.new.ensures ∙ filled_empty)
+returns c = c.over.ensures ∙ ap start_with (ap filled c.new.ensures ∙ filled_empty)

@@ -1,18 +1,16 @@
-use Rattle.std.proofs.Common.{◌≡◌, List, map, ap, sym, ◌∙◌, rules, [], ◌∷◌, ◌++◌}
+use Rattle.std.proofs.Common.{◌≡◌, map, ap, sym, ◌∙◌, rules}
 use Rattle.std.specs.Map.Iter.{deref_pair}
 use Rattle.std.specs.FinMap.{entries}
 use Rattle.std.proofs.lemmas.Map.Iter.{iter_end}
-use Rattle.keeper_core.specs.declared.row.Row.{Row}
 use Rattle.keeper_core.specs.Slots.{TableSlots, rows_in}
 use Rattle.keeper_core.specs.Laying.{bare}
-use Rattle.keeper_core.proofs.Rows.{rows_shown_full, rows_shown_empty, entries_bare}
+use Rattle.keeper_core.proofs.Rows.{rows_pushed, rows_shown_empty, entries_bare}
 use Rattle.keeper_core.proofs.table.Table.rows.Goals as goal
 
 pub loop-key-preserved-in_ok-push : goal.loop-key-preserved-in_ok-push
 loop-key-preserved-in_ok-push c =
     let row : c.in_ok-copied.field-0 ≡ record { key = c.in-Some.key.now.items; val = c.in-Some-slot.val.items } = c.in_ok-copied.ensures ∙ (λ i. record { key = c.as_slice.ensures.value i; val = c.as_slice-in-Some-slot.ensures.value i }) in
-    c.in_ok-push.ensures.items ∙ ap (λ (so_far : List Row). so_far ++ c.in_ok-copied.field-0 ∷ []) c.loop-key.invariant ∙ ap (λ (r : Row). rows_in (bare (map deref_pair c.loop-key.yielded)) ++ r ∷ []) row
-    ∙ sym (rows_shown_full c.loop-key.yielded c.in-Some.key c.in-Some.slot c.in-Some-slot.val c.in-Some-slot.is)
+    rows_pushed c.loop-key.rows.items c.push.new.self.items c.in_ok-copied.field-0 c.loop-key.yielded c.in-Some.key c.in-Some.slot c.in-Some-slot.val c.in_ok-push.ensures.items c.loop-key.invariant row c.in-Some-slot.is
 
 pub loop-key-preserved : goal.loop-key-preserved
 loop-key-preserved c = c.loop-key.invariant ∙ sym (rows_shown_empty c.loop-key.yielded c.in-Some.key c.in-Some.slot c.in_default.is)
