@@ -1,0 +1,2 @@
+pub mod Funding
+pub mod Least

@@ -1,0 +1,3 @@
+pub mod Deals
+pub mod DealText
+pub mod Kept
