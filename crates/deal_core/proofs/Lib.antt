@@ -1,1 +1,9 @@
+pub mod Drafting
+pub mod Finishing
+pub mod HexWords
+pub mod SaidReading
 pub mod Sums
+pub mod Passing
+pub mod TextReading
+pub mod Walks
+pub mod WordReading

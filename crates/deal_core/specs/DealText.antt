@@ -30,5 +30,9 @@ deal_words deal =
     (codes "deal" ∷ deal.name ∷ []) ∷ (codes "house" ∷ hex_text deal.house.0 ∷ [])
     ∷ (map party_words deal.parties ++ map (step_words deal.parties) deal.steps)
 
+-- lines of these words, each ended by a line feed
+abbrev pub lines_text : List (List (List ℕ)) → List ℕ
+lines_text lines = spelled_lines (map spelled_words lines)
+
 abbrev pub deal_text : DealTold → List ℕ
-deal_text deal = spelled_lines (map spelled_words (deal_words deal))
+deal_text deal = lines_text (deal_words deal)

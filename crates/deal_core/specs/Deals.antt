@@ -53,6 +53,15 @@ Reaches steps from to = (walk : List Step) × AllByRecursion (Contains steps) wa
 abbrev pub IsConnected : List Step → ℕ → Type 0
 IsConnected steps parties = (from to : ℕ) → from < parties → to < parties → Reaches steps from to
 
+-- Party 0 reaches the party, and the party reaches party 0.
+abbrev pub IsJoined : List Step → ℕ → Type 0
+IsJoined steps party = Reaches steps 0 party × Reaches steps party 0
+
+-- Of so many parties this is the first that isn't reached from party 0 or doesn't reach it.
+abbrev pub IsFirstApart : List Step → ℕ → ℕ → Type 0
+IsFirstApart steps parties party =
+    (party < parties) × (IsJoined steps party → ⊥) × ((other : ℕ) → other < party → IsJoined steps other)
+
 -- ---- the indices of parties
 
 abbrev pub same_id : Id → Id → Bool

@@ -1,3 +1,9 @@
 pub mod Deals
 pub mod DealText
 pub mod Kept
+pub mod Marks
+pub mod IdWords
+pub mod Said
+pub mod DealFaults
+pub mod Drafts
+pub mod Reading

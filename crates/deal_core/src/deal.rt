@@ -3,7 +3,7 @@
 ghost use Rattle.std.specs.Prelude.{◌≡◌, ◌<◌, ◌^◌, IfSome, length};
 ghost use Rattle.deal_core.specs.Deals.{matrix_of, index_of_account};
 
-use crate::party::Party;
+use crate::party::{self, Party};
 use crate::step::Step;
 use dh_base::{Id, List, Name};
 use std::marker::Model;
@@ -72,24 +72,10 @@ pub fn matrix(deal: &Deal, from: u16, to: u16, ledger: &Name, asset: &Name) -> u
     sum_between(deal.steps(), from, to, ledger, asset)
 }
 
-/// The place of the party with the account.
-fn place_of_account(parties: &[Party], account: &Id) -> Option<usize>
-    ensures value { result ≡ index_of_account parties.now account.now }
-    ensures within { IfSome result (λ place. place < length parties.now) }
-{
-    for (place, party) in parties.iter().enumerate() {
-        if *account == party.account {
-            return Some(place);
-        }
-    }
-    None
-}
-
 /// The index of the party with the account.
 pub fn party_of(deal: &Deal, account: &Id) -> Option<u16>
     ensures value { result ≡ index_of_account deal.now.parties account.now }
     ensures within { IfSome result (λ index. index < length deal.now.parties) }
 {
-    let place = place_of_account(deal.parties(), account)?;
-    Some(place as u16)
+    party::index_of_account(deal.parties(), account)
 }

@@ -6,9 +6,25 @@
 #![tactic(auto)]
 
 pub mod deal;
+pub mod deal_fault;
+pub mod deal_line;
+mod draft;
+mod id_word;
+pub mod laws;
 pub mod party;
+mod reach;
+pub mod reading;
+mod saying;
 pub mod step;
+mod step_list;
+pub mod writing;
 
 pub use deal::{Deal, matrix, party_of};
+pub use deal_fault::DealFault;
 pub use party::Party;
+pub use reading::read_deal;
 pub use step::Step;
+pub use writing::write_deal;
+
+#[cfg(test)]
+mod tests;

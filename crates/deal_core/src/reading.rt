@@ -1,0 +1,68 @@
+//! Reading a deal's text.
+
+ghost use Rattle.std.specs.Prelude.{◌≡◌, IfOk, IfErr};
+ghost use Rattle.deal_core.specs.Drafts.{whole, reading_of};
+ghost use Rattle.deal_core.specs.Reading.{IsFaultOf, Answers};
+
+use crate::deal::Deal;
+use crate::deal_fault::DealFault;
+use crate::draft::Draft;
+use crate::laws::found;
+use crate::reach::first_apart;
+use dh_base::{List, digest};
+use line_text::Lines;
+use std::alloc::Global;
+
+/// What the lines of the text come to, or the first fault of one.
+fn read_lines(alloc: Global, text: &[u8]) -> Result<Draft, DealFault>
+    ensures draft { IfOk result (λ draft. reading_of text.now ≡ whole draft) }
+    ensures fault { IfErr result (IsFaultOf text.now) }
+{
+    let mut draft = Draft::new(alloc);
+    let mut lines = Lines::new(text);
+    while let Some(line) = lines.next_line() {
+        if let Some(fault) = draft.take_line(&line)? {
+            return Err(fault);
+        }
+    }
+    Ok(draft)
+}
+
+/// The deal of the draft, if it has all that a deal has.
+fn finish(draft: Draft, text: &[u8]) -> Result<Deal, DealFault>
+    requires { reading_of text.now ≡ whole draft }
+    ensures { Answers text.now result }
+{
+    found();
+    let line = draft.lines() + 1;
+    let Draft {
+        name,
+        house,
+        parties,
+        steps,
+    } = draft;
+    let (Some(name), Some(house)) = (name, house) else {
+        return Err(DealFault::BadLine { line });
+    };
+    if steps.as_slice().is_empty() {
+        return Err(DealFault::BadLine { line });
+    }
+    if let Some(party) = first_apart(steps.as_slice(), parties.as_slice()) {
+        return Err(DealFault::NotConnected { party });
+    }
+    Ok(Deal {
+        id: digest(text),
+        house,
+        name,
+        parties: List::from_vec(parties),
+        steps: List::from_vec(steps),
+    })
+}
+
+/// Reads a deal's text: its one deal, or the first fault.
+pub fn read_deal(alloc: Global, text: &[u8]) -> Result<Deal, DealFault>
+    ensures { Answers text.now result }
+{
+    let draft = read_lines(alloc, text)?;
+    finish(draft, text)
+}
