@@ -1,2 +1,5 @@
+pub mod Finding
+pub mod FirstOver
 pub mod Funding
 pub mod Least
+pub mod Transfers

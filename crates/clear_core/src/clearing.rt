@@ -66,7 +66,7 @@ pub fn due(deal: &Deal, party: u16, ledger: &Name, asset: &Name) -> u64
 }
 
 /// How many of the steps are the party's own on the ledger.
-fn count_turns(steps: &[Step], party: u16, ledger: &Name) -> u32
+pub(crate) fn count_turns(steps: &[Step], party: u16, ledger: &Name) -> u32
     requires { length steps.now ≤ 64 }
     ensures { result ≡ turns_of steps.now party ledger.now }
 {
