@@ -8,37 +8,39 @@ use Rattle.key_ring.specs.declared.envelope.Envelope.{Envelope}
 use Rattle.key_ring.specs.declared.said.Said.{Said}
 use Rattle.key_ring.specs.declared.env_fault.EnvFault.{EnvFault}
 use Rattle.key_ring.specs.declared.env_fault.EnvFault.TheVariants.{BadForm, BadRing, KeyOutside, BadSignature, NoMemory}
-use Rattle.key_ring.specs.Rings.{Ring, IsRing, ring_text, ring_size_of, ring_of}
-use Rattle.key_ring.specs.Saying.{IsSignedBy, Says, IsKeyOutside, IsBadlySigned}
+use Rattle.key_ring.specs.Rings.{Ring, ring_size_of, ring_of}
+use Rattle.key_ring.specs.Saying.{HasRing, IsSignedBy, Says, IsKeyOutside, IsBadlySigned}
 use Rattle.key_ring.specs.Answering.{IsAnswer}
 use Rattle.key_ring.proofs.RingTexts.{ring_of-text, sized, ring_in, text-ring_in, count-in, ident-in, key-in}
 
 abbrev read : Ring → Result Ring ℕ
 read ring = Ok ring
 
-one_ring : (text : List ℕ) (first second : Ring) → IsRing first → IsRing second → text ≡ ring_text first → text ≡ ring_text second → first ≡ second
-one_ring text first second is1 is2 e1 e2 =
-    let h1 : ring_of text ≡ read first = ap ring_of e1 ∙ ring_of-text first is1 in
-    let h2 : ring_of text ≡ read second = ap ring_of e2 ∙ ring_of-text second is2 in
+told : (env : Envelope) (h : HasRing env) → ring_of env.ring ≡ read h.ring
+told env h = ap ring_of h.spelled ∙ ring_of-text h.ring h.formed
+
+one_ring : (env : Envelope) (first second : HasRing env) → first.ring ≡ second.ring
+one_ring env first second =
+    let one = told env first in
+    let other = told env second in
     cc
 
-formed_not_faulty : (text : List ℕ) (ring : Ring) (at : ℕ) → IsRing ring → text ≡ ring_text ring → ring_of text ≡ Err at → ⊥
-formed_not_faulty text ring at is e fault =
-    let h : ring_of text ≡ read ring = ap ring_of e ∙ ring_of-text ring is in
+one_size : (env : Envelope) (first second : HasRing env) → length first.ring.keys ≡ length second.ring.keys
+one_size env first second = ap (λ (r : Ring). length r.keys) (one_ring env first second)
+
+formed_not_faulty : (env : Envelope) (at : ℕ) → HasRing env → ring_of env.ring ≡ Err at → ⊥
+formed_not_faulty env at h fault =
+    let formed = told env h in
     absurd cc
 
 said_not_outside : (env : Envelope) (account message : List ℕ) (p q n : ℕ) → Says env account p message → IsKeyOutside env q n → ⊥
-said_not_outside env account message p q n s o =
-    let same : length s.ring.keys ≡ length o.ring.keys = ap (λ (r : Ring). length r.keys) (one_ring env.ring s.ring o.ring s.formed o.formed s.spelled o.spelled) in
-    omega (arith, s.key, s.q_is, o.outside, o.q_is, o.n_is)
+said_not_outside env account message p q n s o = omega (arith, one_size env s.has o.has, s.key, s.q_is, o.outside, o.q_is, o.n_is)
 
 said_not_bad : (env : Envelope) (account message : List ℕ) (p : ℕ) → Says env account p message → IsBadlySigned env → ⊥
-said_not_bad env account message p s b = b.not_signed (subst (λ (r : Ring). IsSignedBy r env) (one_ring env.ring s.ring b.ring s.formed b.formed s.spelled b.spelled) s.signed)
+said_not_bad env account message p s b = b.not_signed (subst (λ (r : Ring). IsSignedBy r env) (one_ring env s.has b.has) s.signed)
 
 outside_not_bad : (env : Envelope) (q n : ℕ) → IsKeyOutside env q n → IsBadlySigned env → ⊥
-outside_not_bad env q n o b =
-    let same : length b.ring.keys ≡ length o.ring.keys = ap (λ (r : Ring). length r.keys) (one_ring env.ring b.ring o.ring b.formed o.formed b.spelled o.spelled) in
-    omega (arith, b.key, o.outside, o.q_is, o.n_is)
+outside_not_bad env q n o b = omega (arith, one_size env b.has o.has, b.key, o.outside, o.q_is, o.n_is)
 
 one_said : (env : Envelope) (first second : Said) → Says env first.account.0 first.q env.message → Says env second.account.0 second.q env.message → first ≡ second
 one_said env first second s1 s2 =
@@ -47,8 +49,7 @@ one_said env first second s1 s2 =
     ap (λ (a : List ℕ). record { account = record { 0 = a }; q = first.q }) account ∙ ap (λ (k : ℕ). record { account = second.account; q = k }) q
 
 one_outside : (env : Envelope) (p q m n : ℕ) → IsKeyOutside env p m → IsKeyOutside env q n → (p ≡ q) × (m ≡ n)
-one_outside env p q m n o1 o2 =
-    (o1.q_is ∙ sym o2.q_is, o1.n_is ∙ ap (λ (r : Ring). length r.keys) (one_ring env.ring o1.ring o2.ring o1.formed o2.formed o1.spelled o2.spelled) ∙ sym o2.n_is)
+one_outside env p q m n o1 o2 = (o1.q_is ∙ sym o2.q_is, o1.n_is ∙ one_size env o1.has o2.has ∙ sym o2.n_is)
 
 abbrev faulty : ℕ → Result Ring ℕ
 faulty at = Err at
@@ -59,23 +60,23 @@ fault_is p q e = cc
 says_back : (env : Envelope) (r : Result Said EnvFault) (said : Said) → IsAnswer env r → Says env said.account.0 said.q env.message → r ≡ Ok said
 says_back env (Ok other) said a s = ap (λ (x : Said). Ok x) (one_said env other said a s)
 says_back env (Err (BadForm at)) said a s = absurd a
-says_back env (Err (BadRing at)) said a s = absurd (formed_not_faulty env.ring s.ring at s.formed s.spelled a)
+says_back env (Err (BadRing at)) said a s = absurd (formed_not_faulty env at s.has a)
 says_back env (Err (KeyOutside q n)) said a s = absurd (said_not_outside env said.account.0 env.message said.q q n s a)
 says_back env (Err BadSignature) said a s = absurd (said_not_bad env said.account.0 env.message said.q s a)
 says_back env (Err NoMemory) said a s = absurd a
 
 ring_back : (env : Envelope) (r : Result Said EnvFault) (at : ℕ) → IsAnswer env r → ring_of env.ring ≡ Err at → r ≡ Err (BadRing at)
-ring_back env (Ok said) at a f = absurd (formed_not_faulty env.ring a.ring at a.formed a.spelled f)
+ring_back env (Ok said) at a f = absurd (formed_not_faulty env at a.has f)
 ring_back env (Err (BadForm p)) at a f = absurd a
 ring_back env (Err (BadRing p)) at a f = (let same : p ≡ at = fault_is p at (sym a ∙ f) in ap (λ (k : ℕ). Err (BadRing k)) same)
-ring_back env (Err (KeyOutside q n)) at a f = absurd (formed_not_faulty env.ring a.ring at a.formed a.spelled f)
-ring_back env (Err BadSignature) at a f = absurd (formed_not_faulty env.ring a.ring at a.formed a.spelled f)
+ring_back env (Err (KeyOutside q n)) at a f = absurd (formed_not_faulty env at a.has f)
+ring_back env (Err BadSignature) at a f = absurd (formed_not_faulty env at a.has f)
 ring_back env (Err NoMemory) at a f = absurd a
 
 outside_back : (env : Envelope) (r : Result Said EnvFault) (q n : ℕ) → IsAnswer env r → IsKeyOutside env q n → r ≡ Err (KeyOutside q n)
 outside_back env (Ok said) q n a o = absurd (said_not_outside env said.account.0 env.message said.q q n a o)
 outside_back env (Err (BadForm p)) q n a o = absurd a
-outside_back env (Err (BadRing p)) q n a o = absurd (formed_not_faulty env.ring o.ring p o.formed o.spelled a)
+outside_back env (Err (BadRing p)) q n a o = absurd (formed_not_faulty env p o.has a)
 outside_back env (Err (KeyOutside p m)) q n a o = (let same = one_outside env p q m n a o in ap (λ (k : ℕ). Err (KeyOutside k m)) same.0 ∙ ap (λ (k : ℕ). Err (KeyOutside q k)) same.1)
 outside_back env (Err BadSignature) q n a o = absurd (outside_not_bad env q n o a)
 outside_back env (Err NoMemory) q n a o = absurd a
@@ -83,7 +84,7 @@ outside_back env (Err NoMemory) q n a o = absurd a
 bad_back : (env : Envelope) (r : Result Said EnvFault) → IsAnswer env r → IsBadlySigned env → r ≡ Err BadSignature
 bad_back env (Ok said) a b = absurd (said_not_bad env said.account.0 env.message said.q a b)
 bad_back env (Err (BadForm p)) a b = absurd a
-bad_back env (Err (BadRing p)) a b = absurd (formed_not_faulty env.ring b.ring p b.formed b.spelled a)
+bad_back env (Err (BadRing p)) a b = absurd (formed_not_faulty env p b.has a)
 bad_back env (Err (KeyOutside p m)) a b = absurd (outside_not_bad env p m a b)
 bad_back env (Err BadSignature) a b = refl
 bad_back env (Err NoMemory) a b = absurd a
@@ -102,10 +103,14 @@ bad_both env r a = (λ e. subst (IsAnswer env) e a, bad_back env r a)
 
 -- ---- what is known where a check ends
 
-pub outside-made : (env : Envelope) (text : List ℕ) (n : ℕ) → AreBytes text → env.ring ≡ text → ring_size_of text ≡ Ok n → n ≤ env.q → IsKeyOutside env env.q n
-outside-made env text n are e size outside =
+ring_there : (env : Envelope) (text : List ℕ) (n : ℕ) → AreBytes text → env.ring ≡ text → ring_size_of text ≡ Ok n → HasRing env
+ring_there env text n are e size =
     let formed = text-ring_in text n are (sized text n size) in
-    record { ring = ring_in n text; formed = formed.0; spelled = e ∙ formed.1; q_is = refl; n_is = sym (count-in n text); outside = outside }
+    record { ring = ring_in n text; formed = formed.0; spelled = e ∙ formed.1 }
+
+pub outside-made : (env : Envelope) (text : List ℕ) (n : ℕ) → AreBytes text → env.ring ≡ text → ring_size_of text ≡ Ok n → n ≤ env.q → IsKeyOutside env env.q n
+unfolding ring_there
+outside-made env text n are e size outside = record { has = ring_there env text n are e size; q_is = refl; n_is = sym (count-in n text); outside = outside }
 
 -- the signature is valid under the key that stands at its place
 pub IsValidAt : Envelope → List ℕ → Type 0
@@ -123,27 +128,21 @@ unfolding IsValidAt
 IsValidAt-to env text i k m e f g h = subst (λ (x : List ℕ). IsOtsValid i env.q k x env.sig) (sym g) (valid env (take 16 (drop 8 text)) i (take 32 (drop (26 + 32 * env.q) text)) k (sym e) (sym f) h)
 
 pub bad-made : (env : Envelope) (text : List ℕ) (n : ℕ) → AreBytes text → env.ring ≡ text → ring_size_of text ≡ Ok n → env.q < n → (IsValidAt env text → ⊥) → IsBadlySigned env
-unfolding IsValidAt
+unfolding IsValidAt ring_there
 bad-made env text n are e size key not_valid =
-    let formed = text-ring_in text n are (sized text n size) in
     let count = count-in n text in
     record {
-      ring = ring_in n text;
-      formed = formed.0;
-      spelled = e ∙ formed.1;
+      has = ring_there env text n are e size;
       key = omega (arith, count);
       not_signed = λ h. not_valid (valid env (ring_in n text).ident (take 16 (drop 8 text)) (get_or (ring_in n text).keys env.q []) (take 32 (drop (26 + 32 * env.q) text)) (ident-in n text) (key-in n text env.q key) h);
     }
 
 pub says-made : (env : Envelope) (text account : List ℕ) (n : ℕ) → AreBytes text → env.ring ≡ text → ring_size_of text ≡ Ok n → env.q < n → IsValidAt env text → account ≡ sha256 text → Says env account env.q env.message
-unfolding IsValidAt
+unfolding IsValidAt ring_there
 says-made env text account n are e size key is_valid hash =
-    let formed = text-ring_in text n are (sized text n size) in
     let count = count-in n text in
     record {
-      ring = ring_in n text;
-      formed = formed.0;
-      spelled = e ∙ formed.1;
+      has = ring_there env text n are e size;
       account_is = hash ∙ ap sha256 (sym e);
       q_is = refl;
       key = omega (arith, count);

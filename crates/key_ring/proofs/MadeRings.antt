@@ -41,9 +41,7 @@ says-made seed ident message size q len few lt =
     let count : length (map key (range_with_len 0 size)) ≡ size = length-map-range_with_len key 0 size in
     let there : get_or (map key (range_with_len 0 size)) q [] ≡ key q = get_or-map-range_with_len key 0 size q q [] lt (omega arith) in
     record {
-      ring = ring_made seed ident size;
-      formed = IsRing-made seed ident size len (omega arith) few;
-      spelled = refl;
+      has = record { ring = ring_made seed ident size; formed = IsRing-made seed ident size len (omega arith) few; spelled = refl };
       account_is = refl;
       q_is = refl;
       key = omega arith;

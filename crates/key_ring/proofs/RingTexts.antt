@@ -38,8 +38,8 @@ passed : {A F : Type 0} (b : Bool) (d : F) (r : Result A F) (y : A) → cond b (
 passed true d r y e = absurd cc
 passed false d r y e = (refl, e)
 
--- a text of that many keys
-pub record IsSized (text : List ℕ) (size : ℕ) : Type 0 where
+-- The text has the tag, and that many keys.
+pub record HasKeys (text : List ℕ) (size : ℕ) : Type 0 where
   pub tag : take 8 text ≡ ring_tag
   pub size_is : said_keys text ≡ size
   pub some : 1 ≤ size
@@ -49,7 +49,7 @@ pub record IsSized (text : List ℕ) (size : ℕ) : Type 0 where
 abbrev size_read : ℕ → Result ℕ ℕ
 size_read n = Ok n
 
-pub sized : (text : List ℕ) (size : ℕ) → ring_size_of text ≡ Ok size → IsSized text size
+pub sized : (text : List ℕ) (size : ℕ) → ring_size_of text ≡ Ok size → HasKeys text size
 unfolding ring_size_of
 sized text size e =
     let first = passed (ltb (shared_len ring_tag text) 8) (shared_len ring_tag text) _ size e in
@@ -117,7 +117,7 @@ ring_of-text ring is =
 pub ring_in : ℕ → List ℕ → Ring
 ring_in size text = record { ident = take 16 (drop 8 text); keys = elements_of size (drop 26 text) }
 
-pub text-ring_in : (text : List ℕ) (size : ℕ) → AreBytes text → IsSized text size → IsRing (ring_in size text) × (text ≡ ring_text (ring_in size text))
+pub text-ring_in : (text : List ℕ) (size : ℕ) → AreBytes text → HasKeys text size → IsRing (ring_in size text) × (text ≡ ring_text (ring_in size text))
 unfolding ring_in
 text-ring_in text size are s =
     let count : length (elements_of size (drop 26 text)) ≡ size = length-elements size (drop 26 text) in
