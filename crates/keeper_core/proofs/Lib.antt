@@ -7,4 +7,5 @@ pub mod Batched
 pub mod Scanned
 pub mod Shelves
 pub mod Naming
+pub mod Worked
 pub mod Rows

@@ -1,5 +1,5 @@
 -- What a scan lists.
-use Rattle.std.proofs.Common.{◌≡◌, ℕ, zero, suc, ◌==◌, T, true, false, List, [], ◌∷◌, map, Some, None, refl, sym, ap, ◌∙◌, arith, inl, inr, ◌⊎◌}
+use Rattle.std.proofs.Common.{◌≡◌, ℕ, zero, suc, ◌==◌, T, true, false, List, [], ◌∷◌, map, Option, Some, None, refl, sym, ap, ◌∙◌, arith, inl, inr, ◌⊎◌}
 use Rattle.std.specs.List.{Contains, filter, AllByRecursion}
 use Rattle.std.specs.List.Sorted.{IsStrictlySortedBy}
 use Rattle.std.specs.declared.cmp.Ordering.{Ordering}
@@ -62,6 +62,10 @@ contains_cases first row rest (suc k, lt, is) = inr (k, omega arith, is)
 find_later : (cell : Cell) (x : Cell × List ℕ) (es : List (Cell × List ℕ)) → (x.0 ≡ cell → ⊥) → find cell_cmp cell (x ∷ es) ≡ find cell_cmp cell es
 find_later cell x es ne = rw (at_others cell x.0 ne) refl
 
+not_both : {X : Type 0} (found : Option X) (x : X) → found ≡ None → found ≡ Some x → ⊥
+not_both None x none some = cc
+not_both (Some y) x none some = cc
+
 listed_found : (tab : ℕ) (row : Row) (es : List (Cell × List ℕ)) → T (is_sorted cell_cmp es) → Contains (rows_at tab es) row → find cell_cmp (tab, row.key) es ≡ Some row.val
 listed_found tab row [] h (k, lt, is) = absurd (omega arith)
 listed_found tab row (x ∷ es) h there = elim (cases_Bool (x.0.0 == tab)) [
@@ -75,7 +79,7 @@ listed_found tab row (x ∷ es) h there = elim (cases_Bool (x.0.0 == tab)) [
             ap (λ (c : Cell). find cell_cmp c (x ∷ es)) (sym cell) ∙ found ∙ ap (λ (r : Row). Some r.val) is
         | inr later ↦
             let found : find cell_cmp (tab, row.key) es ≡ Some row.val = listed_found tab row es (second_of _ _ h) later in
-            find_later (tab, row.key) x es (λ same. (let none : find cell_cmp x.0 es ≡ None = find_below x.0 es (first_of _ _ h) in let clash : None ≡ Some row.val = sym none ∙ ap (λ (c : Cell). find cell_cmp c es) same ∙ found in cc)) ∙ found
+            find_later (tab, row.key) x es (λ same. not_both (find cell_cmp (tab, row.key) es) row.val (ap (λ (c : Cell). find cell_cmp c es) (sym same) ∙ find_below x.0 es (first_of _ _ h)) found) ∙ found
       ]
   | inr apart ↦
       let stands : Contains (rows_at tab es) row = rw apart at there in

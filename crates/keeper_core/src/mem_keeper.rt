@@ -23,7 +23,6 @@ use std::marker::Model;
 /// A keeper in memory. It tells its map, and fails and stops where it is told to.
 #[derive(Drop)]
 pub struct MemKeeper {
-    alloc: Global,
     cells: Cells,
     armed: Option<Arm>,
     stopped: bool,
@@ -47,15 +46,14 @@ impl MemKeeper {
     pub fn new(alloc: Global) -> MemKeeper
         ensures { result ≡ record { tables = finite.empty; armed = None; stopped = false; faults = 0 } }
     {
-        MemKeeper::over(alloc, Cells::new(alloc))
+        MemKeeper::over(Cells::new(alloc))
     }
 
     /// The keeper of the rows in these slots, which runs and is not armed.
-    pub(crate) fn over(alloc: Global, cells: Cells) -> MemKeeper
+    pub(crate) fn over(cells: Cells) -> MemKeeper
         ensures { result ≡ record { tables = filled cells; armed = None; stopped = false; faults = 0 } }
     {
         MemKeeper {
-            alloc,
             cells,
             armed: None,
             stopped: false,
@@ -68,7 +66,6 @@ impl MemKeeper {
         ensures { filled result ≡ self.tables }
     {
         let MemKeeper {
-            alloc: _,
             cells,
             armed: _,
             stopped: _,

@@ -115,7 +115,7 @@ impl Store for MemStore {
         self.calls.make()?;
         self.make_room(name)?;
         let cells = self.replace(name, Cells::new(self.alloc));
-        Ok(MemKeeper::over(self.alloc, cells))
+        Ok(MemKeeper::over(cells))
     }
 
     fn back(&mut self, name: &str, keep: MemKeeper)

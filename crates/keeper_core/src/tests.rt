@@ -172,6 +172,31 @@ fn a_later_arm_takes_the_place_of_an_earlier_one(rt: HostRuntime) -> Result<(), 
     Ok(())
 }
 
+/// Where an allocation is refused, the tests are tried with it: a commit changes nothing then.
+#[test]
+fn a_commit_without_memory_changes_nothing(rt: HostRuntime) {
+    let alloc = rt.alloc();
+    let Ok(mut keeper) = filled(alloc) else {
+        return;
+    };
+    let mut batch = Batch::new(alloc);
+    if batch.put(2, b"a", b"new").is_err() || batch.put(9, b"z", b"last").is_err() {
+        return;
+    }
+    match keeper.commit(&batch) {
+        Ok(()) => {
+            assert!(rt; has(&keeper, b"a", b"new"));
+            assert!(rt; keeper.peek(9, b"z").is_some());
+        }
+        Err(fault) => {
+            assert_eq!(rt; fault, KeepFault::NoMemory);
+            assert!(rt; has(&keeper, b"a", b"one"));
+            assert!(rt; keeper.peek(9, b"z").is_none());
+        }
+    }
+    assert_eq!(rt; keeper.faults(), 0);
+}
+
 /// The SHA-256 digest of no bytes.
 const OF_NOTHING: Id = Id([
     0xe3, 0xb0, 0xc4, 0x42, 0x98, 0xfc, 0x1c, 0x14, 0x9a, 0xfb, 0xf4, 0xc8, 0x99, 0x6f, 0xb9, 0x24,
