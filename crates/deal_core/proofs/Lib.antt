@@ -1,9 +1,13 @@
 pub mod Drafting
 pub mod Finishing
+pub mod HexAgain
 pub mod HexWords
+pub mod OneDeal
+pub mod SaidAgain
 pub mod SaidReading
 pub mod Sums
 pub mod Passing
+pub mod TextAgain
 pub mod TextReading
 pub mod Walks
 pub mod WordReading

@@ -1,8 +1,10 @@
 -- The text of a deal: a line for its name, one for its house, one for each party and one for each step.
-use Rattle.std.specs.Prelude.{ℕ, List, [], ◌∷◌, ◌++◌, map, codes, Option, Some, None}
-use Rattle.std.specs.List.{slice_get}
+use Rattle.std.specs.Prelude.{ℕ, ◌≡◌, ◌<◌, IsTrue, List, [], ◌∷◌, ◌++◌, length, map, codes, Option, Some, None}
+use Rattle.std.specs.List.{slice_get, AllByRecursion}
 use Rattle.std.specs.Fmt.{decimal}
+use Rattle.dh_base.specs.Names.{is_name}
 use Rattle.dh_base.specs.Spelled.{hex_text}
+use Rattle.dh_base.specs.declared.id.Id.{Id}
 use Rattle.line_text.specs.Lines.{spelled_lines}
 use Rattle.line_text.specs.Words.{spelled_words}
 use Rattle.deal_core.specs.Deals.{DealTold}
@@ -36,3 +38,14 @@ lines_text lines = spelled_lines (map spelled_words lines)
 
 abbrev pub deal_text : DealTold → List ℕ
 deal_text deal = lines_text (deal_words deal)
+
+-- ---- what has a spelling: names are names, and ids are 32 bytes
+
+abbrev pub IsId : Id → Type 0
+IsId id = (length id.0 ≡ 32) × AllByRecursion (λ byte. byte < 256) id.0
+
+pub record IsSpellable (deal : DealTold) : Type 0 where
+  pub name : IsTrue (is_name deal.name)
+  pub house : IsId deal.house
+  pub parties : AllByRecursion (λ party. IsTrue (is_name party.name) × IsId party.account) deal.parties
+  pub steps : AllByRecursion (λ step. IsTrue (is_name step.ledger) × IsTrue (is_name step.asset)) deal.steps

@@ -1,13 +1,17 @@
 //! Reading a deal's text.
 
-ghost use Rattle.std.specs.Prelude.{◌≡◌, IfOk, IfErr};
+ghost use Rattle.std.specs.Prelude.{◌≡◌, IfOk, IfErr, MatchResult};
+ghost use Rattle.deal_core.specs.Deals.{DealTold};
+ghost use Rattle.deal_core.specs.DealText.{deal_text, IsSpellable};
 ghost use Rattle.deal_core.specs.Drafts.{whole, reading_of};
+ghost use Rattle.deal_core.specs.Kept.{IsDeal};
 ghost use Rattle.deal_core.specs.Reading.{IsFaultOf, Answers};
+ghost use Rattle.deal_core.specs.declared.deal_fault.DealFault.TheVariants.{NoMemory as OutOfMemory};
 
 use crate::deal::Deal;
 use crate::deal_fault::DealFault;
 use crate::draft::Draft;
-use crate::laws::found;
+use crate::laws::{found, only};
 use crate::reach::first_apart;
 use dh_base::{List, digest};
 use line_text::Lines;
@@ -59,10 +63,21 @@ fn finish(draft: Draft, text: &[u8]) -> Result<Deal, DealFault>
     })
 }
 
-/// Reads a deal's text: its one deal, or the first fault.
-pub fn read_deal(alloc: Global, text: &[u8]) -> Result<Deal, DealFault>
+/// What the text is read as.
+fn read(alloc: Global, text: &[u8]) -> Result<Deal, DealFault>
     ensures { Answers text.now result }
 {
     let draft = read_lines(alloc, text)?;
     finish(draft, text)
+}
+
+/// Reads a deal's text: its one deal, or the first fault.
+pub fn read_deal(alloc: Global, text: &[u8]) -> Result<Deal, DealFault>
+    ensures answer { Answers text.now result }
+    // The text of a deal is read as that deal, unless memory runs out.
+    ensures only { (deal : DealTold) → IsDeal deal → IsSpellable deal → text.now ≡ deal_text deal →
+        MatchResult result (λ read. read ≡ deal) (λ fault. fault ≡ OutOfMemory) }
+{
+    only();
+    read(alloc, text)
 }
