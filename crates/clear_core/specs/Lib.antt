@@ -4,3 +4,4 @@ pub mod Pairs
 pub mod Plans
 pub mod TermsKept
 pub mod TermFaults
+pub mod Summaries

@@ -5,6 +5,7 @@
 //! - `pair`: the assets on ledgers that a deal moves.
 //! - `planning`, `plan_act`: what a party does in a deal.
 //! - `checking`, `terms`, `limit`, `term_fault`: whether a deal keeps a party's terms.
+//! - `summary`: what a deal's clearing tells, as text.
 //! - `laws`: the needs are the least holdings that fund the steps.
 #![tactic(auto)]
 
@@ -16,6 +17,7 @@ pub mod limit;
 pub mod pair;
 pub mod plan_act;
 pub mod planning;
+pub mod summary;
 pub mod term_fault;
 pub mod terms;
 
@@ -25,6 +27,7 @@ pub use limit::Limit;
 pub use pair::{Pair, pairs};
 pub use plan_act::PlanAct;
 pub use planning::plan;
+pub use summary::clearing_text;
 pub use term_fault::TermFault;
 pub use terms::Terms;
 

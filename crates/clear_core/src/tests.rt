@@ -1,6 +1,6 @@
 ghost use Rattle.std.specs.Prelude.{◌≤◌, length, IfOk};
 
-use crate::{Limit, PlanAct, Terms, check_terms, due, need, plan, turns};
+use crate::{Limit, PlanAct, Terms, check_terms, clearing_text, due, need, plan, turns};
 use deal_core::{Deal, read_deal};
 use dh_base::{BaseFault, List, Name};
 use std::alloc::{AllocError, Global};
@@ -172,5 +172,24 @@ fn terms_limits(rt: HostRuntime) -> Result<(), Fail> {
     );
     assert_eq!(rt; checked(alloc, &[5], &[5])?.as_str(), "kept");
     assert_eq!(rt; checked(alloc, &[2, 3], &[5, 5, 1])?.as_str(), "kept");
+    Ok(())
+}
+
+const RING_CLEARED: &str = "
+matrix a b bank gold 5
+matrix b c bank gold 5
+matrix c a bank gold 5
+need a bank gold 5
+due a bank gold 5
+";
+
+#[test]
+fn clear_ring(rt: HostRuntime) -> Result<(), Fail> {
+    let alloc = rt.alloc();
+    let deal = deal_of(alloc, RING)?;
+    let id = deal.id;
+    let expected = format!(in alloc; "deal ring\nid {id}{RING_CLEARED}")?;
+    let text = clearing_text(alloc, &deal)?;
+    assert!(rt; text.as_slice() == expected.as_bytes());
     Ok(())
 }
