@@ -1,5 +1,6 @@
 pub mod Drafting
 pub mod Finishing
+pub mod FirstFault
 pub mod HexAgain
 pub mod HexWords
 pub mod OneDeal

@@ -7,3 +7,4 @@ pub mod Said
 pub mod DealFaults
 pub mod Drafts
 pub mod Reading
+pub mod Positions

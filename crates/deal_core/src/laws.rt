@@ -1,7 +1,10 @@
 //! Laws of deals and their texts.
 
-ghost use Rattle.std.specs.Prelude.{◌≡◌, ℕ, List, Ok};
-ghost use Rattle.deal_core.specs.Drafts.{Draft, reading_of};
+ghost use Rattle.std.specs.Prelude.{◌≡◌, ℕ, List, Ok, Err};
+ghost use Rattle.line_text.specs.Lines.{lines_of};
+ghost use Rattle.deal_core.specs.Drafts.{Draft, no_lines, reading_of};
+ghost use Rattle.deal_core.specs.Positions.{IsFirstFault};
+ghost use Rattle.deal_core.specs.declared.deal_fault.DealFault.{DealFault};
 ghost use Rattle.deal_core.specs.Deals.{DealTold};
 ghost use Rattle.deal_core.specs.DealText.{deal_text, IsSpellable};
 ghost use Rattle.deal_core.specs.Kept.{IsDeal};
@@ -11,6 +14,12 @@ use line_text::laws::{
     decimal_of_number, lines_of_spelled_lines, number_of_decimal, one_list_of_lines, plain_lines,
     plain_words, spelled_words_of, words_of_spelled_words,
 };
+
+/// The fault that is answered is that of the first line that has one.
+pub fn first_line()
+    ensures { (text : List ℕ) (k : ℕ) (fault : DealFault) → IsFirstFault no_lines (lines_of text) k fault →
+        reading_of text ≡ Err fault }
+{}
 
 /// A text whose lines have no fault is that of a deal: its name, its house, two parties at least, and its steps.
 pub fn found()

@@ -1,8 +1,13 @@
 //! Deals and their texts. A deal has parties and steps in an order, each of which passes an amount of an asset on a ledger
 //! from one party to another. Its text is lines, and its id is the digest of the text.
 //!
-//! - `deal`: a deal, its matrix, and the index of a party.
-//! - `party`, `step`: what a deal is made of.
+//! - `deal`, `party`, `step`: a deal, its matrix, and the index of a party.
+//! - `reading`, `writing`: from a text to its deal, and back.
+//! - `deal_fault`: what is wrong with a text.
+//! - `deal_line`, `saying`, `id_word`: what a line says, read from its words.
+//! - `draft`, `step_list`: what the lines so far come to, and the fault of the next.
+//! - `reach`: whether the parties reach each other.
+//! - `laws`: a text is read exactly as the deal that it spells, and refused for its first fault.
 #![tactic(auto)]
 
 pub mod deal;
