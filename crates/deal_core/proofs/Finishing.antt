@@ -9,6 +9,7 @@ use Rattle.deal_core.specs.Drafts.{Draft, is_empty, whole, reading_of}
 use Rattle.deal_core.specs.Reading.{IsWholeText, IsApart}
 use Rattle.deal_core.specs.declared.party.Party.{Party}
 use Rattle.deal_core.specs.declared.step.Step.{Step}
+use Rattle.deal_core.proofs.WordReading.{some_is}
 
 abbrev pub made : List ℕ → Id → List Party → List Step → Draft
 made name house parties steps = record { name = Some name; house = Some house; parties = parties; steps = steps }
@@ -32,12 +33,9 @@ connected_same ss steps ps parties e f h = subst (λ (xs : List Step). IsConnect
 pub apart : (text : List ℕ) (n : List ℕ) (h : Id) (parties : List Party) (steps : List Step) (party : ℕ) → reading_of text ≡ Ok (made n h parties steps) → IsFirstApart steps (length parties) party → IsApart text party
 apart text n h parties steps party read first = record { draft = made n h parties steps; read = read; first = first }
 
-some_same : {X : Type 0} (x y : X) → Some x ≡ Some y → x ≡ y
-some_same x y e = cc
-
 pub is_text : (text : List ℕ) (n : List ℕ) (h : Id) (parties : List Party) (steps : List Step) (id : Id) → IsWholeText (made n h parties steps) text → text ≡ deal_text (record { id = id; house = h; name = n; parties = parties; steps = steps })
 is_text text n h parties steps id w =
-    w.spelled id ∙ (ap (λ (x : List ℕ). deal_text (record { id = id; house = w.house; name = x; parties = parties; steps = steps })) (sym (some_same n w.name w.named)) ∙ ap (λ (x : Id). deal_text (record { id = id; house = x; name = n; parties = parties; steps = steps })) (sym (some_same h w.house w.housed)))
+    w.spelled id ∙ (ap (λ (x : List ℕ). deal_text (record { id = id; house = w.house; name = x; parties = parties; steps = steps })) (sym (some_is n w.name w.named)) ∙ ap (λ (x : Id). deal_text (record { id = id; house = x; name = n; parties = parties; steps = steps })) (sym (some_is h w.house w.housed)))
 
 pub is_deal : (text : List ℕ) (n : List ℕ) (h : Id) (parties : List Party) (steps : List Step) (id : Id) → IsWholeText (made n h parties steps) text → IsDraft parties steps → IsConnected steps (length parties) → id.0 ≡ sha256 text → IsDeal (record { id = id; house = h; name = n; parties = parties; steps = steps })
 is_deal text n h parties steps id w kept connected digest = record {

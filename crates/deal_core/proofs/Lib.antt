@@ -4,10 +4,10 @@ pub mod FirstFault
 pub mod HexAgain
 pub mod HexWords
 pub mod OneDeal
+pub mod Passing
 pub mod SaidAgain
 pub mod SaidReading
 pub mod Sums
-pub mod Passing
 pub mod TextAgain
 pub mod TextReading
 pub mod Walks

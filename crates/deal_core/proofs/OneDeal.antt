@@ -1,5 +1,5 @@
 -- A text has one deal, and reading answers it.
-use Rattle.std.proofs.Common.{◌≡◌, ℕ, ◌<◌, Some, List, length, Result, Ok, Err, arith, refl, sym, ap, subst, ◌∙◌}
+use Rattle.std.proofs.Common.{◌≡◌, ℕ, ◌<◌, List, length, Result, Ok, Err, arith, refl, sym, ap, subst, ◌∙◌}
 use Rattle.std.specs.Prelude.{MatchResult}
 use Rattle.sha2.specs.Sha256.{sha256}
 use Rattle.dh_base.specs.declared.id.Id.{Id}
@@ -12,18 +12,16 @@ use Rattle.deal_core.specs.declared.deal_fault.DealFault.{DealFault}
 use Rattle.deal_core.specs.declared.deal_fault.DealFault.TheVariants.{BadLine, PartyTwice, UnknownParty, SelfStep, ZeroAmount, TooMany, SumTooLarge, NotConnected, NoMemory}
 use Rattle.deal_core.specs.declared.party.Party.{Party}
 use Rattle.deal_core.specs.declared.step.Step.{Step}
+use Rattle.deal_core.proofs.WordReading.{some_is}
 
 ok_same : (d e : Draft) (r : Result Draft DealFault) → r ≡ Ok d → r ≡ Ok e → d ≡ e
 ok_same d e r f g = cc
 
-some_same : {X : Type 0} (x y : X) → Some x ≡ Some y → x ≡ y
-some_same x y e = cc
-
 deal_same : (d deal : DealTold) → d.id.0 ≡ deal.id.0 → draft_of d ≡ draft_of deal → d ≡ deal
 deal_same d deal id draft =
     let ids : d.id ≡ deal.id = ap (λ (bytes : List ℕ). record { 0 = bytes }) id in
-    let house : d.house ≡ deal.house = some_same d.house deal.house (ap (λ (x : Draft). x.house) draft) in
-    let name : d.name ≡ deal.name = some_same d.name deal.name (ap (λ (x : Draft). x.name) draft) in
+    let house : d.house ≡ deal.house = some_is d.house deal.house (ap (λ (x : Draft). x.house) draft) in
+    let name : d.name ≡ deal.name = some_is d.name deal.name (ap (λ (x : Draft). x.name) draft) in
     let parties : d.parties ≡ deal.parties = ap (λ (x : Draft). x.parties) draft in
     let steps : d.steps ≡ deal.steps = ap (λ (x : Draft). x.steps) draft in
     ap (λ (x : Id). record { id = x; house = d.house; name = d.name; parties = d.parties; steps = d.steps }) ids

@@ -23,6 +23,7 @@ ghost use Rattle.deal_core.specs.Drafts.{
 use crate::deal_fault::DealFault;
 use crate::deal_line::{DealLine, NamedStep};
 use crate::party::{Party, index_of_name, is_account, is_party};
+use crate::reach::MOST_PARTIES;
 use crate::saying::said_by;
 use crate::step::Step;
 use crate::step_list::{is_on, ledger_count, total};
@@ -30,9 +31,6 @@ use dh_base::{Id, Name, NoMemory};
 use line_text::TextLine;
 use std::alloc::Global;
 use std::marker::Model;
-
-/// The most parties of a deal.
-const MOST_PARTIES: usize = 16;
 
 /// The fewest parties of a deal.
 const LEAST_PARTIES: usize = 2;
