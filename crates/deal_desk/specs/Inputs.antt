@@ -2,7 +2,7 @@
 use Rattle.std.specs.Prelude.{ℕ, ◌≡◌, ◌+◌, ◌≤◌, List, take, drop, Option, Some, IfSome}
 use Rattle.plain_script.specs.Reading.{most_bytes}
 
--- how many bytes are read at most: one more than a script may have
+-- how many bytes are read at most: one more than an input may have
 abbrev pub most_read : ℕ
 most_read = most_bytes + 1
 

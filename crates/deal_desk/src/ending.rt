@@ -3,17 +3,20 @@
 ghost use Rattle.std.specs.Prelude.{◌≡◌};
 ghost use Rattle.deal_desk.specs.Endings.{status_of};
 
-use plain_core::ScriptRule;
+use deal_core::DealFault;
+use plain_script::ScriptRule;
 
 /// How a run ends.
 #[derive(Clone, Copy, Debug, PartialEq, Eq)]
 pub enum Ending {
-    /// The report is written.
-    Reported,
+    /// The command did all its work: the report or the clearing is written.
+    Done,
     /// The words are none that the program knows, and it told those that it does.
     Usage,
-    /// The line of the script breaks the rule, which is told.
+    /// The line of the input breaks the rule, which is told. Line 0 is the input as a whole.
     Refused { line: u32, rule: ScriptRule },
+    /// The input is no deal's text, for a fault that is told.
+    RefusedDeal { fault: DealFault },
     /// The source failed. Nothing is written.
     InputFailed,
     /// The sink failed.
@@ -28,9 +31,9 @@ impl Ending {
         ensures { result ≡ status_of self }
     {
         match self {
-            Ending::Reported => 0,
+            Ending::Done => 0,
             Ending::Usage => 1,
-            Ending::Refused { .. } => 2,
+            Ending::Refused { .. } | Ending::RefusedDeal { .. } => 2,
             Ending::InputFailed => 3,
             Ending::OutputFailed => 4,
             Ending::NoMemory => 7,

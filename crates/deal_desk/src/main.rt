@@ -1,7 +1,11 @@
-//! The program: `deal_desk rehearse` reads a script from standard input and writes its report.
-//! [`run::run`] is the top call, over any source and sink; `main` gives it those of the system.
+//! The program. `deal_desk clear` reads the text of a deal from standard input and writes its clearing;
+//! `deal_desk rehearse` reads a script and writes its report. [`run::run`] is the top call, over any
+//! source and sink; `main` gives it those of the system.
 #![tactic(auto)]
 
+mod answer;
+mod answering;
+mod command;
 mod ending;
 mod reading;
 mod run;

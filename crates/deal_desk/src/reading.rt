@@ -1,4 +1,4 @@
-//! Reading a script from a source.
+//! Reading an input from a source.
 
 ghost use Rattle.std.specs.Prelude.{◌≡◌, IfOk, IfErr, OnErr};
 ghost use Rattle.deal_desk.specs.declared.reading.ReadHalt.TheVariants.{Failed as HasFailed};
@@ -9,7 +9,7 @@ use dh_base::Source;
 use plain_script::script::MOST_BYTES;
 use std::alloc::Global;
 
-/// One byte more than a script may have.
+/// One byte more than an input may have.
 const MOST_READ: usize = MOST_BYTES + 1;
 
 /// How many bytes are read at once.
@@ -21,8 +21,8 @@ pub enum ReadHalt {
     NoMemory,
 }
 
-/// Reads the source to its end, or to one byte more than a script may have.
-pub fn read_script<S: Source>(alloc: Global, input: &mut S) -> Result<Vec<u8>, ReadHalt>
+/// Reads the source to its end, or to one byte more than an input may have.
+pub fn read_input<S: Source>(alloc: Global, input: &mut S) -> Result<Vec<u8>, ReadHalt>
     ensures read { IfOk result (λ bytes. WasRead (S.left input.old) bytes.items (S.left input.new)) }
     ensures front { OnErr result (GaveFront (S.left input.old) (S.left input.new)) }
     ensures failed { IfErr result (λ halt. halt ≡ HasFailed → HasRisen (S.faults input.old) (S.faults input.new)) }

@@ -1,29 +1,18 @@
 //! The top call.
 
-ghost use Rattle.std.specs.Prelude.{◌≡◌, map, string_bytes, IfOk};
-ghost use Rattle.deal_desk.specs.Endings.{is_rehearse, refused_line, Says, Refuses, IsTold, IsRehearsed, IsEnded, KeepsOneLog};
+ghost use Rattle.std.specs.Prelude.{◌≡◌, map, string_bytes};
+ghost use Rattle.deal_desk.specs.Endings.{Says, IsTold, IsCarriedOut, IsEnded, KeepsOneLog};
 
+use crate::answering::answer;
+use crate::command::Command;
 use crate::ending::Ending;
-use crate::reading::{ReadHalt, read_script};
+use crate::reading::{ReadHalt, read_input};
 use crate::writing::write_text;
 use dh_base::{NoMemory, Sink, Source};
-use plain_core::{PlainHalt, ScriptRule, rehearse_plain};
-use plain_script::RefusedLine;
 use std::alloc::Global;
-use std::fmt::Write;
 
 const USAGE: &str =
     "usage: deal_desk clear | rehearse | fair N SEED | ledger | seat | board | agent | live\n";
-
-/// Whether the words ask for a rehearsal.
-fn is_rehearse(words: &[String]) -> bool
-    ensures { result ≡ is_rehearse (map string_bytes words.now) }
-{
-    match words {
-        [word] => word.as_str() == "rehearse",
-        _ => false,
-    }
-}
 
 /// Writes the text, and ends so.
 fn say<K: Sink>(text: &[u8], ending: Ending, output: &mut K) -> Ending
@@ -35,51 +24,36 @@ fn say<K: Sink>(text: &[u8], ending: Ending, output: &mut K) -> Ending
     }
 }
 
-/// The line that tells a refused line of a script.
-fn refused_text(alloc: Global, line: u32, rule: ScriptRule) -> Result<String, NoMemory>
-    ensures { IfOk result (λ text. string_bytes text ≡ refused_line line rule) }
+/// Writes what the command answers to the input.
+fn tell<K: Sink>(alloc: Global, command: Command, input: &[u8], output: &mut K) -> Ending
+    ensures { IsTold command result input.now (record { written = K.written output.old; faults = K.faults output.old }) (record { written = K.written output.new; faults = K.faults output.new }) }
 {
-    let mut text = String::new(alloc);
-    let refused = RefusedLine { line, rule };
-    write!(text, "{refused}\n")?;
-    Ok(text)
-}
-
-/// Tells a refused line.
-fn refuse<K: Sink>(alloc: Global, line: u32, rule: ScriptRule, output: &mut K) -> Ending
-    ensures { Refuses line rule result (record { written = K.written output.old; faults = K.faults output.old }) (record { written = K.written output.new; faults = K.faults output.new }) }
-{
-    match refused_text(alloc, line, rule) {
-        Ok(text) => say(text.as_bytes(), Ending::Refused { line, rule }, output),
-        Err(_) => Ending::NoMemory,
+    match answer(alloc, command, input) {
+        Ok(answer) => say(answer.text.as_slice(), answer.ending, output),
+        Err(NoMemory) => Ending::NoMemory,
     }
 }
 
-/// Writes the report of the script, or the line that is refused.
-fn report<K: Sink>(alloc: Global, script: &[u8], output: &mut K) -> Ending
-    ensures { IsTold result script.now (record { written = K.written output.old; faults = K.faults output.old }) (record { written = K.written output.new; faults = K.faults output.new }) }
+/// Reads the input, and writes what the command answers to it.
+fn carry_out<S: Source, K: Sink>(
+    alloc: Global,
+    command: Command,
+    input: &mut S,
+    output: &mut K,
+) -> Ending
+    ensures { IsCarriedOut command result (record { left = S.left input.old; faults = S.faults input.old }) (record { left = S.left input.new; faults = S.faults input.new }) (record { written = K.written output.old; faults = K.faults output.old }) (record { written = K.written output.new; faults = K.faults output.new }) }
 {
-    match rehearse_plain(alloc, script) {
-        Ok(text) => say(text.as_slice(), Ending::Reported, output),
-        Err(PlainHalt::Refused { line, rule }) => refuse(alloc, line, rule, output),
-        Err(PlainHalt::NoMemory) => Ending::NoMemory,
-    }
-}
-
-/// Reads a script and writes its report.
-fn rehearse<S: Source, K: Sink>(alloc: Global, input: &mut S, output: &mut K) -> Ending
-    ensures { IsRehearsed result (record { left = S.left input.old; faults = S.faults input.old }) (record { left = S.left input.new; faults = S.faults input.new }) (record { written = K.written output.old; faults = K.faults output.old }) (record { written = K.written output.new; faults = K.faults output.new }) }
-{
-    match read_script(alloc, input) {
-        Ok(script) => report(alloc, &script, output),
+    match read_input(alloc, input) {
+        Ok(bytes) => tell(alloc, command, &bytes, output),
         Err(ReadHalt::Failed) => Ending::InputFailed,
         Err(ReadHalt::NoMemory) => Ending::NoMemory,
     }
 }
 
-/// Runs the words, from the source to the sink, and answers the exit status: 0 where the report is
-/// written, 1 for words that the program does not know, 2 for a script that breaks a rule, 3 and 4 where
-/// the source or the sink fails, and 7 where memory runs out.
+/// Runs the words, from the source to the sink, and answers the exit status: 0 where the command did all
+/// its work (the clearing of a deal or the report of a script is written), 1 for words that the program
+/// doesn't know, 2 for an input that is refused (a script that breaks a rule, a text that is no deal's,
+/// or too many bytes), 3 and 4 where the source or the sink fails, and 7 where memory runs out.
 pub fn run<S: Source, K: Sink>(alloc: Global, words: &[String], input: &mut S, output: &mut K) -> u8
     ensures ended { IsEnded result (map string_bytes words.now)
         (record { left = S.left input.old; faults = S.faults input.old })
@@ -91,8 +65,8 @@ pub fn run<S: Source, K: Sink>(alloc: Global, words: &[String], input: &mut S, o
         (record { written = K.written output.old; faults = K.faults output.old })
         (record { written = K.written output.new; faults = K.faults output.new }) }
 {
-    if !is_rehearse(words) {
+    let Some(command) = Command::from_words(words) else {
         return say(USAGE.as_bytes(), Ending::Usage, output).status();
-    }
-    rehearse(alloc, input, output).status()
+    };
+    carry_out(alloc, command, input, output).status()
 }

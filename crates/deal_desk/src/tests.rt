@@ -1,3 +1,4 @@
+mod clearing;
 mod failing;
 mod limits;
 mod memory;
@@ -21,6 +22,21 @@ const BROKER_REPORT: &str = "6 done 1\n7 done 2\n8 done 3\n9 entered 0\n10 enter
 11 entered 2\n12 refused 3 Undecided 2\n13 settled commit\n14 refused 9 Decided 2 commit\n\
 ledger coins\nfree coin ben 5\ndeal d commit\npaid d coin ben 5\n";
 
+const BROKER_DEAL: &str = "deal broker\n\
+house 0000000000000000000000000000000000000000000000000000000000000000\n\
+party alice 1111111111111111111111111111111111111111111111111111111111111111\n\
+party bob 2222222222222222222222222222222222222222222222222222222222222222\n\
+party carol 3333333333333333333333333333333333333333333333333333333333333333\n\
+step bob alice tickets ticket 1\nstep alice carol tickets ticket 1\n\
+step carol alice coins coin 101\nstep alice bob coins coin 100\n";
+
+const BROKER_CLEARING: &str = "deal broker\n\
+id 96621027692430b7e9ba3a884207ab90eab3e64375502a43df9c5fd3e2db014b\n\
+matrix alice bob coins coin 100\nmatrix alice carol tickets ticket 1\n\
+matrix bob alice tickets ticket 1\nmatrix carol alice coins coin 101\n\
+due alice coins coin 1\ndue bob coins coin 100\nneed bob tickets ticket 1\n\
+need carol coins coin 101\ndue carol tickets ticket 1\n";
+
 fn words(alloc: Global, word: &str) -> Result<Vec<String>, AllocError> {
     let mut words = Vec::new(alloc);
     words.push(String::from_str(alloc, word)?)?;
@@ -36,35 +52,55 @@ fn sink(alloc: Global, fails: &[u32]) -> Result<MemSink, AllocError> {
     Ok(MemSink::new(alloc, List::from_vec(fails.to_vec(alloc)?)))
 }
 
-/// The status of a run of the word over the script, and the sink with what is written.
-fn run_over(alloc: Global, word: &str, script: &[u8]) -> Result<(u8, MemSink), Fail> {
+/// The status of a run of the word over the text, and the sink with what is written.
+fn run_over(alloc: Global, word: &str, text: &[u8]) -> Result<(u8, MemSink), Fail> {
     let words = words(alloc, word)?;
-    let mut input = source(alloc, script, &[])?;
+    let mut input = source(alloc, text, &[])?;
     let mut output = sink(alloc, &[])?;
     let status = run(alloc, &words, &mut input, &mut output);
     Ok((status, output))
 }
 
-/// Runs the word over the script, and checks the status and what is written.
+/// Runs the word over the text, and checks the status and what is written.
 fn check(
     rt: &impl Abort,
     alloc: Global,
     word: &str,
-    script: &[u8],
+    text: &[u8],
     status: u8,
     written: &str,
 ) -> Result<(), Fail> {
-    let (ended, output) = run_over(alloc, word, script)?;
+    let (ended, output) = run_over(alloc, word, text)?;
     assert_eq!(rt; ended, status);
     assert_eq!(rt; output.written(), written.as_bytes());
     Ok(())
 }
 
-/// The bytes of a script whose lines are each ended by `|`.
-fn script_of(alloc: Global, before: &str, lines: &str) -> Result<Vec<u8>, AllocError> {
-    let mut script = before.as_bytes().to_vec(alloc)?;
+/// The bytes of these lines behind the text, each line ended by `|`.
+fn lines_behind(alloc: Global, before: &str, lines: &str) -> Result<Vec<u8>, AllocError> {
+    let mut text = before.as_bytes().to_vec(alloc)?;
     for byte in lines.as_bytes() {
-        script.push(if *byte == b'|' { b'\n' } else { *byte })?;
+        text.push(if *byte == b'|' { b'\n' } else { *byte })?;
     }
-    Ok(script)
+    Ok(text)
+}
+
+/// Checks that the lines of each row, behind the text, are refused with the row's line and status 2. Behind each
+/// line of a row stands `|`, and the answer behind an arrow.
+fn check_refused(
+    rt: &impl Abort,
+    alloc: Global,
+    word: &str,
+    before: &str,
+    table: &str,
+) -> Result<(), Fail> {
+    for row in table.lines() {
+        let (lines, answer) = row.split_once(" => ").ok_or("no answer")?;
+        let text = lines_behind(alloc, before, lines)?;
+        let (status, output) = run_over(alloc, word, text.as_slice())?;
+        let written = format!(in alloc; "{answer}\n")?;
+        assert_eq!(rt; status, 2, "{lines}");
+        assert_eq!(rt; output.written(), written.as_bytes(), "{lines}");
+    }
+    Ok(())
 }

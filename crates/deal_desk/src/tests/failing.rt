@@ -1,6 +1,6 @@
 //! Each read and each write fails in turn.
 
-use super::{BROKER, BROKER_REPORT, USAGE, sink, source, words};
+use super::{BROKER, BROKER_CLEARING, BROKER_DEAL, BROKER_REPORT, USAGE, sink, source, words};
 use crate::run::run;
 use dh_base::{Failed, MemSink, Sink};
 use std::alloc::Global;
@@ -29,16 +29,18 @@ impl Sink for NarrowSink {
     }
 }
 
-#[test]
-fn a_failing_read_has_status_3(rt: HostRuntime) -> Result<(), Fail> {
-    let alloc = rt.alloc();
-    let words = words(alloc, "rehearse")?;
-    let comment = vec![in alloc; b'#'; 10000]?;
-    let mut script = BROKER.as_bytes().to_vec(alloc)?;
-    script.extend_from_slice(comment.as_slice())?;
-    script.push(b'\n')?;
-    for read in 0..4 {
-        let mut input = source(alloc, script.as_slice(), &[read])?;
+/// Checks a run that makes so many reads, none of which fails, and runs in which each one does.
+fn check_reads(
+    rt: &impl Abort,
+    alloc: Global,
+    word: &str,
+    text: &[u8],
+    reads: u32,
+    written: &str,
+) -> Result<(), Fail> {
+    let words = words(alloc, word)?;
+    for read in 0..reads {
+        let mut input = source(alloc, text, &[read])?;
         let mut output = sink(alloc, &[])?;
         assert_eq!(rt;
             run(alloc, &words, &mut input, &mut output),
@@ -48,22 +50,29 @@ fn a_failing_read_has_status_3(rt: HostRuntime) -> Result<(), Fail> {
         assert_eq!(rt; input.faults(), 1);
         assert_eq!(rt; output.written(), b"".as_slice());
     }
-    let mut input = source(alloc, script.as_slice(), &[4])?;
+    let mut input = source(alloc, text, &[reads])?;
     let mut output = sink(alloc, &[])?;
     assert_eq!(rt; run(alloc, &words, &mut input, &mut output), 0);
-    assert_eq!(rt; output.written(), BROKER_REPORT.as_bytes());
+    assert_eq!(rt; output.written(), written.as_bytes());
     Ok(())
 }
 
+#[test]
+fn a_failing_read_has_status_3(rt: HostRuntime) -> Result<(), Fail> {
+    let alloc = rt.alloc();
+    let comment = vec![in alloc; b'#'; 10000]?;
+    let mut script = BROKER.as_bytes().to_vec(alloc)?;
+    script.extend_from_slice(comment.as_slice())?;
+    script.push(b'\n')?;
+    check_reads(&rt, alloc, "rehearse", script.as_slice(), 4, BROKER_REPORT)?;
+    let deal = BROKER_DEAL.as_bytes();
+    check_reads(&rt, alloc, "clear", deal, 2, BROKER_CLEARING)
+}
+
 /// The status of a run with its output to the narrow sink.
-fn run_narrow(
-    alloc: Global,
-    word: &str,
-    script: &str,
-    output: &mut NarrowSink,
-) -> Result<u8, Fail> {
+fn run_narrow(alloc: Global, word: &str, input: &str, output: &mut NarrowSink) -> Result<u8, Fail> {
     let words = words(alloc, word)?;
-    let mut input = source(alloc, script.as_bytes(), &[])?;
+    let mut input = source(alloc, input.as_bytes(), &[])?;
     Ok(run(alloc, &words, &mut input, output))
 }
 
@@ -72,7 +81,7 @@ fn check_writes(
     rt: &impl Abort,
     alloc: Global,
     word: &str,
-    script: &str,
+    input: &str,
     status: u8,
     text: &str,
 ) -> Result<(), Fail> {
@@ -82,7 +91,7 @@ fn check_writes(
             sink: sink(alloc, &[write])?,
         };
         assert_eq!(rt;
-            run_narrow(alloc, word, script, &mut output)?,
+            run_narrow(alloc, word, input, &mut output)?,
             4,
             "write {write}"
         );
@@ -93,7 +102,7 @@ fn check_writes(
     let mut output = NarrowSink {
         sink: sink(alloc, &[])?,
     };
-    assert_eq!(rt; run_narrow(alloc, word, script, &mut output)?, status);
+    assert_eq!(rt; run_narrow(alloc, word, input, &mut output)?, status);
     assert_eq!(rt; output.sink.written(), text.as_bytes());
     Ok(())
 }
@@ -110,5 +119,8 @@ fn a_failing_write_has_status_4(rt: HostRuntime) -> Result<(), Fail> {
         2,
         "line 1 rule 12 NotBuilt\n",
     )?;
+    check_writes(&rt, alloc, "clear", BROKER_DEAL, 0, BROKER_CLEARING)?;
+    let fault = "refused 1 BadLine 2\n";
+    check_writes(&rt, alloc, "clear", "deal broker\n", 2, fault)?;
     check_writes(&rt, alloc, "help", BROKER, 1, USAGE)
 }

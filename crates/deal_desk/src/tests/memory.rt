@@ -1,6 +1,6 @@
 //! Runs in which an allocation may be refused, as where the tests are tried with one that fails.
 
-use super::{BROKER, BROKER_REPORT, USAGE, sink, source, words};
+use super::{BROKER, BROKER_CLEARING, BROKER_DEAL, BROKER_REPORT, USAGE, sink, source, words};
 use crate::run::run;
 use std::alloc::Global;
 use std::process::Abort;
@@ -49,4 +49,21 @@ fn a_refused_line_is_whole_or_memory_ran_out(rt: HostRuntime) {
 #[test]
 fn a_usage_line_is_whole_or_memory_ran_out(rt: HostRuntime) {
     check_ending(&rt, rt.alloc(), "", BROKER, 1, USAGE);
+}
+
+#[test]
+fn a_clearing_is_whole_or_memory_ran_out(rt: HostRuntime) {
+    check_ending(&rt, rt.alloc(), "clear", BROKER_DEAL, 0, BROKER_CLEARING);
+}
+
+#[test]
+fn a_fault_of_a_deal_is_whole_or_memory_ran_out(rt: HostRuntime) {
+    check_ending(
+        &rt,
+        rt.alloc(),
+        "clear",
+        "deal broker\n",
+        2,
+        "refused 1 BadLine 2\n",
+    );
 }

@@ -1,22 +1,13 @@
-//! Scripts that break a rule, each with the one line that is written for it. Behind each line of a table's
-//! script stands `|`, and the answer behind an arrow.
+//! Scripts that break a rule, each with the one line that is written for it.
 
-use super::{run_over, script_of};
+use super::check_refused;
 use std::alloc::Global;
 use std::process::Abort;
 use std::test::Fail;
 
 /// Checks that the script of each row, behind these lines, is refused with the row's line and status 2.
 fn check_table(rt: &impl Abort, alloc: Global, before: &str, table: &str) -> Result<(), Fail> {
-    for row in table.lines() {
-        let (lines, answer) = row.split_once(" => ").ok_or("no answer")?;
-        let script = script_of(alloc, before, lines)?;
-        let (status, output) = run_over(alloc, "rehearse", script.as_slice())?;
-        let written = format!(in alloc; "{answer}\n")?;
-        assert_eq!(rt; status, 2, "{lines}");
-        assert_eq!(rt; output.written(), written.as_bytes(), "{lines}");
-    }
-    Ok(())
+    check_refused(rt, alloc, "rehearse", before, table)
 }
 
 const HEADS: &str = "house| => line 1 rule 12 NotBuilt

@@ -1,6 +1,7 @@
 //! What is written for scripts that break no rule, and for other words.
 
-use super::{BROKER, BROKER_REPORT, USAGE, check};
+use super::{BROKER, BROKER_REPORT, USAGE, check, sink, source, words};
+use crate::run::run;
 use std::test::Fail;
 
 const TICKET_SALE: &str =
@@ -69,8 +70,42 @@ fn a_script_has_its_report(rt: HostRuntime) -> Result<(), Fail> {
 
 #[test]
 fn other_words_have_the_usage_line(rt: HostRuntime) -> Result<(), Fail> {
-    for word in ["", "rehearsal", "Rehearse", "rehearse ", "clear"] {
+    for word in [
+        "",
+        "rehearsal",
+        "Rehearse",
+        "rehearse ",
+        "clea",
+        "clears",
+        "Clear",
+        " clear",
+    ] {
         check(&rt, rt.alloc(), word, BROKER.as_bytes(), 1, USAGE)?;
     }
+    Ok(())
+}
+
+#[test]
+fn a_command_has_no_further_word(rt: HostRuntime) -> Result<(), Fail> {
+    let alloc = rt.alloc();
+    for word in ["clear", "rehearse"] {
+        let mut words = words(alloc, word)?;
+        words.push(String::from_str(alloc, word)?)?;
+        let mut input = source(alloc, BROKER.as_bytes(), &[])?;
+        let mut output = sink(alloc, &[])?;
+        assert_eq!(rt; run(alloc, &words, &mut input, &mut output), 1);
+        assert_eq!(rt; output.written(), USAGE.as_bytes());
+    }
+    Ok(())
+}
+
+#[test]
+fn no_word_has_the_usage_line(rt: HostRuntime) -> Result<(), Fail> {
+    let alloc = rt.alloc();
+    let words = Vec::new(alloc);
+    let mut input = source(alloc, BROKER.as_bytes(), &[])?;
+    let mut output = sink(alloc, &[])?;
+    assert_eq!(rt; run(alloc, &words, &mut input, &mut output), 1);
+    assert_eq!(rt; output.written(), USAGE.as_bytes());
     Ok(())
 }

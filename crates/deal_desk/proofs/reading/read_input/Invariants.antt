@@ -1,7 +1,7 @@
 use Rattle.std.proofs.Common.{◌≤◌, ◌-◌, length}
 use Rattle.deal_desk.specs.Inputs.{most_read}
 use Rattle.deal_desk.proofs.Taken.{Taken}
-use Rattle.deal_desk.proofs.reading.read_script.Given as goal
+use Rattle.deal_desk.proofs.reading.read_input.Given as goal
 
 abbrev pub invariant-loop-piece : goal.invariant-loop-piece
 invariant-loop-piece g l =

@@ -1,7 +1,7 @@
 use Rattle.std.proofs.Common.{arith}
 use Rattle.std.proofs.lemmas.Grind.{common_steps}
 use Rattle.deal_desk.proofs.Taken.{read_to_limit, read_to_end, gave_piece}
-use Rattle.deal_desk.proofs.reading.read_script.Goals as goal
+use Rattle.deal_desk.proofs.reading.read_input.Goals as goal
 
 pub returns-then-room-eq0-clause-read : goal.returns-then-room-eq0-clause-read
 returns-then-room-eq0-clause-read g c = read_to_limit _ c.loop-piece.bytes.items _ c.loop-piece.invariant.1 (omega (arith, c.loop-piece.invariant.0, c.if-room-eq0.true, c.min-room.ensures, c.len.ensures))

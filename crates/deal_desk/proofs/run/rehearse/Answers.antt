@@ -1,5 +1,0 @@
-use Rattle.deal_desk.proofs.Read.{read_and_told}
-use Rattle.deal_desk.proofs.run.rehearse.Goals as goal
-
-pub returns-in-Ok : goal.returns-in-Ok
-returns-in-Ok g c = read_and_told c.report.result _ _ _ _ c.in-Ok.script.items c.deref.result.now c.deref.ensures.value c.in-Ok.ensures.read c.report.ensures
