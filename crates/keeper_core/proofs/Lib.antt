@@ -9,3 +9,6 @@ pub mod Shelves
 pub mod Naming
 pub mod Worked
 pub mod Rows
+pub mod Ordered
+pub mod OneListing
+pub mod NumberedOn

@@ -54,7 +54,7 @@ pub scans_ascend : ScansAscend
 scans_ascend tab tables = keys_ascend tab (entries tables) (entries_sorted tables)
 
 -- a row is first or stands in the rest
-contains_cases : (first row : Row) (rest : List Row) → Contains (first ∷ rest) row → (first ≡ row) ⊎ Contains rest row
+pub contains_cases : (first row : Row) (rest : List Row) → Contains (first ∷ rest) row → (first ≡ row) ⊎ Contains rest row
 contains_cases first row rest (zero, lt, is) = inl is
 contains_cases first row rest (suc k, lt, is) = inr (k, omega arith, is)
 

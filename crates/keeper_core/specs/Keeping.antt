@@ -1,5 +1,6 @@
 -- What a call leaves of a keeper's map, where that is told. What is told stays told.
-use Rattle.std.specs.Prelude.{◌≡◌, ℕ, List, ◌⊎◌, Option, Some, IfSome}
+use Rattle.std.specs.Prelude.{◌≡◌, ℕ, List, ◌⊎◌, Option, IfSome}
+use Rattle.std.specs.Option.{option_map}
 use Rattle.std.specs.FinMap.{get}
 use Rattle.keeper_core.specs.declared.change.Change.{Change}
 use Rattle.keeper_core.specs.declared.row.Row.{Row}
@@ -14,9 +15,9 @@ AnswersByMap told tab key val = IfSome told (λ tables. val ≡ get tables (tab,
 abbrev pub ListsTable : Option Tables → ℕ → List Row → Type 0
 ListsTable told tab rows = IfSome told (λ tables. rows ≡ rows_of tab tables)
 
--- all changes are made
+-- All changes are made. A map that is not told stays untold.
 abbrev pub Applies : Option Tables → List Change → Option Tables → Type 0
-Applies before changes after = IfSome before (λ tables. after ≡ Some (after_batch changes tables))
+Applies before changes after = after ≡ option_map (after_batch changes) before
 
 -- none of the changes is made, or all are
 abbrev pub AppliesNoneOrAll : Option Tables → List Change → Option Tables → Type 0

@@ -10,3 +10,4 @@ pub mod Storing
 pub mod MemoryStore
 pub mod Shelving
 pub mod StoreFaults
+pub mod NumberedRows

@@ -1,5 +1,5 @@
 -- What a fault of kept rows tells, and why it comes.
-use Rattle.std.specs.Prelude.{ℕ, ◌≡◌, Bool, false, List, [], ◌∷◌, codes, length, ◌≤◌, Option, Some, IfSome}
+use Rattle.std.specs.Prelude.{ℕ, ◌≡◌, List, [], ◌∷◌, codes, length, ◌≤◌, Option, Some, IfSome}
 use Rattle.std.specs.FinMap.{get}
 use Rattle.std.proofs.Common.{lit≤}
 use Rattle.sha2.specs.Sha256.{sha256}
@@ -11,6 +11,7 @@ use Rattle.keeper_core.specs.declared.store_fault.StoreFault.{StoreFault}
 use Rattle.keeper_core.specs.declared.store_fault.StoreFault.TheVariants.{Keeper, BadRow, NoMemory}
 use Rattle.keeper_core.specs.declared.keep_fault.KeepFault.{KeepFault}
 use Rattle.keeper_core.specs.declared.keep_fault.KeepFault.TheVariants.{Failed, NoMemory as KeeperNoMemory}
+use Rattle.keeper_core.specs.declared.row.Row.{Row}
 use Rattle.keeper_core.specs.Tables.{Tables}
 
 abbrev pub store_fault_told : StoreFault → Told
@@ -27,20 +28,19 @@ few_store_fields NoMemory = lit≤ tt
 abbrev pub bad_row_of : ℕ → List ℕ → StoreFault
 bad_row_of tab key = BadRow tab (record { 0 = sha256 key })
 
--- A row of the table whose key has that digest fails the test of forms, and stands in the map where that is told.
-pub record IsBadRow (has_form : ℕ → List ℕ → List ℕ → Bool) (told : Option Tables) (tab : ℕ) (digest : Id) : Type 0 where
-  pub key : List ℕ
-  pub val : List ℕ
-  pub named : digest.0 ≡ sha256 key
-  pub unformed : has_form tab key val ≡ false
-  pub stands : IfSome told (λ tables. get tables (tab, key) ≡ Some val)
+-- A row of the table whose key has that digest lacks its form, and stands in the map where that is told.
+pub record IsBadRow (LacksForm : Row → Type 0) (told : Option Tables) (tab : ℕ) (digest : Id) : Type 0 where
+  pub row : Row
+  pub named : digest.0 ≡ sha256 row.key
+  pub lacks : LacksForm row
+  pub stands : IfSome told (λ tables. get tables (tab, row.key) ≡ Some row.val)
 
--- Why a call over a keeper answers a fault: the keeper's count rose in that call, or the row that is named has not its
--- form. Want of memory has no cause here.
-abbrev pub HasCause : (ℕ → List ℕ → List ℕ → Bool) → Option Tables → ℕ → ℕ → StoreFault → Type 0
-HasCause has_form told before after Keeper = HasRisen before after
-HasCause has_form told before after (BadRow tab key) = IsBadRow has_form told tab key
-HasCause has_form told before after NoMemory = Unit {0}
+-- Why a call over a keeper answers a fault: the keeper's count rose in that call, or the row that is named lacks the form
+-- of its table's rows. Want of memory has no cause here.
+abbrev pub HasCause : (ℕ → Row → Type 0) → Option Tables → ℕ → ℕ → StoreFault → Type 0
+HasCause LacksForm told before after Keeper = HasRisen before after
+HasCause LacksForm told before after (BadRow tab key) = IsBadRow (LacksForm tab) told tab key
+HasCause LacksForm told before after NoMemory = Unit {0}
 
 -- the fault of a keeper's call, handed on
 abbrev pub store_fault_of : KeepFault → StoreFault
