@@ -4,3 +4,6 @@ pub mod Saying
 pub mod Making
 pub mod Answering
 pub mod EnvFaults
+pub mod Signers
+pub mod UsedTexts
+pub mod SignFaults

@@ -7,7 +7,8 @@
 //! - `envelope`, `writing`: an envelope, making one, and writing its text.
 //! - `reading`: reading envelopes.
 //! - `said`: what an envelope says.
-//! - `env_fault`: the refusals.
+//! - `signer`: the keys of a ring, of which each signs one text, with what is kept of that.
+//! - `env_fault`, `sign_fault`: the refusals.
 //! - `laws`: laws of the texts, and of what is made.
 #![tactic(auto)]
 
@@ -18,6 +19,9 @@ pub mod laws;
 pub mod reading;
 pub mod ring;
 pub mod said;
+pub mod sign_fault;
+pub mod signer;
+mod used_texts;
 pub mod writing;
 
 pub use env_fault::EnvFault;
@@ -26,6 +30,8 @@ pub use key_spec::KeySpec;
 pub use reading::{EnvelopeAt, envelope_at, read_envelope};
 pub use ring::{account_of, make_ring};
 pub use said::{Said, check};
+pub use sign_fault::SignFault;
+pub use signer::Signer;
 pub use writing::{make_envelope, write_envelope};
 
 #[cfg(test)]

@@ -3,6 +3,8 @@
 
 ghost use Rattle.std.specs.Prelude.{◌≡◌};
 
+mod signers;
+
 use super::*;
 use dh_base::{BaseFault, Id, List, NoMemory, Refusal, digest};
 use std::alloc::Global;
