@@ -3,6 +3,7 @@ pub mod Finishing
 pub mod FirstFault
 pub mod HexAgain
 pub mod HexWords
+pub mod OneAnswer
 pub mod OneDeal
 pub mod Passing
 pub mod SaidAgain

@@ -14,7 +14,7 @@ use Rattle.deal_core.specs.declared.party.Party.{Party}
 use Rattle.deal_core.specs.declared.step.Step.{Step}
 use Rattle.deal_core.proofs.WordReading.{some_is}
 
-ok_same : (d e : Draft) (r : Result Draft DealFault) → r ≡ Ok d → r ≡ Ok e → d ≡ e
+pub ok_same : (d e : Draft) (r : Result Draft DealFault) → r ≡ Ok d → r ≡ Ok e → d ≡ e
 ok_same d e r f g = cc
 
 deal_same : (d deal : DealTold) → d.id.0 ≡ deal.id.0 → draft_of d ≡ draft_of deal → d ≡ deal

@@ -1,5 +1,5 @@
 -- What reading a deal's text answers.
-use Rattle.std.specs.Prelude.{ℕ, ◌≡◌, ◌≤◌, List, length, Some, Result, Ok, Err}
+use Rattle.std.specs.Prelude.{ℕ, ◌≡◌, ◌≤◌, ◌⊎◌, List, length, Some, Result, Ok, Err}
 use Rattle.dh_base.specs.declared.id.Id.{Id}
 use Rattle.deal_core.specs.Deals.{DealTold, IsFirstApart}
 use Rattle.deal_core.specs.DealText.{deal_text}
@@ -50,3 +50,7 @@ pub record IsTextOf (deal : DealTold) (text : List ℕ) : Type 0 where
 abbrev pub Answers : List ℕ → Result DealTold DealFault → Type 0
 Answers text (Ok deal) = IsTextOf deal text
 Answers text (Err fault) = IsFaultOf text fault
+
+-- the two answers are one, or memory ran out at one of them
+abbrev pub AreOneAnswer : Result DealTold DealFault → Result DealTold DealFault → Type 0
+AreOneAnswer one other = (one ≡ other) ⊎ ((one ≡ Err NoMemory) ⊎ (other ≡ Err NoMemory))

@@ -1,6 +1,6 @@
 //! Laws of deals and their texts.
 
-ghost use Rattle.std.specs.Prelude.{◌≡◌, ℕ, List, Ok, Err};
+ghost use Rattle.std.specs.Prelude.{◌≡◌, ℕ, List, Result, Ok, Err};
 ghost use Rattle.line_text.specs.Lines.{lines_of};
 ghost use Rattle.deal_core.specs.Drafts.{Draft, no_lines, reading_of};
 ghost use Rattle.deal_core.specs.Positions.{IsFirstFault};
@@ -8,7 +8,7 @@ ghost use Rattle.deal_core.specs.declared.deal_fault.DealFault.{DealFault};
 ghost use Rattle.deal_core.specs.Deals.{DealTold};
 ghost use Rattle.deal_core.specs.DealText.{deal_text, IsSpellable};
 ghost use Rattle.deal_core.specs.Kept.{IsDeal};
-ghost use Rattle.deal_core.specs.Reading.{IsWholeText, draft_of};
+ghost use Rattle.deal_core.specs.Reading.{IsWholeText, draft_of, Answers, AreOneAnswer};
 
 use line_text::laws::{
     decimal_of_number, lines_of_spelled_lines, number_of_decimal, one_list_of_lines, plain_lines,
@@ -42,3 +42,9 @@ pub fn only()
     words_of_spelled_words();
     lines_of_spelled_lines();
 }
+
+/// A text has one answer, unless memory runs out.
+pub fn one_answer()
+    ensures { (text : List ℕ) (one other : Result DealTold DealFault) → Answers text one → Answers text other →
+        AreOneAnswer one other }
+{}

@@ -1,0 +1,5 @@
+use Rattle.deal_core.proofs.OneAnswer.{one_answer}
+use Rattle.deal_core.proofs.laws.one_answer.Goals as goal
+
+pub returns : goal.returns
+returns c = one_answer
