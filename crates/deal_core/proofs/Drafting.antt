@@ -29,6 +29,10 @@ pub not_false : (b : Bool) → not b ≡ false → b ≡ true
 not_false true h = refl
 not_false false h = absurd cc
 
+pub not_true : (b : Bool) → not b ≡ true → b ≡ false
+not_true false h = refl
+not_true true h = absurd cc
+
 -- what a step without a fault is
 pub record IsGoodStep (parties : List Party) (steps : List Step) (step : NamedStep) : Type 0 where
   pub from : is_party parties step.from ≡ true

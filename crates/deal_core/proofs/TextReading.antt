@@ -21,7 +21,7 @@ use Rattle.deal_core.specs.declared.deal_line.DealLine.TheVariants as line
 use Rattle.deal_core.specs.declared.deal_fault.DealFault.{DealFault}
 use Rattle.deal_core.specs.declared.deal_fault.DealFault.TheVariants.{BadLine}
 use Rattle.deal_core.proofs.Passing.{both_true}
-use Rattle.deal_core.proofs.Drafting.{unbroken, not_false, good_step, name_found}
+use Rattle.deal_core.proofs.Drafting.{unbroken, not_false, not_true, good_step, name_found}
 use Rattle.deal_core.proofs.WordReading.{NumberLaws, Words}
 use Rattle.deal_core.proofs.SaidReading.{said_words, words_found}
 
@@ -112,10 +112,6 @@ step_longer n draft step h enough none = by_house draft.name draft.house draft.p
           ordered = inr enough;
           words = ap (λ (ws : List Words). head_words (Some m) ++ (house_words (Some o) ++ ws)) body;
         }
-
-not_true : (b : Bool) → not b ≡ true → b ≡ false
-not_true false e = refl
-not_true true e = absurd cc
 
 said_longer : (draft : Draft) (said : DealLine) → IsOrdered draft → said_fault draft (Some said) ≡ None → IsLonger draft said
 said_longer draft (line.Deal name) h none =

@@ -1,9 +1,8 @@
 //! Laws of deals and their texts.
 
-ghost use Rattle.std.specs.Prelude.{◌≡◌, ℕ, List, Result, Ok, Err};
-ghost use Rattle.line_text.specs.Lines.{lines_of};
-ghost use Rattle.deal_core.specs.Drafts.{Draft, no_lines, reading_of};
-ghost use Rattle.deal_core.specs.Positions.{IsFirstFault};
+ghost use Rattle.std.specs.Prelude.{◌≡◌, ◌↔◌, ℕ, List, Result, Ok, Err};
+ghost use Rattle.deal_core.specs.Drafts.{Draft, reading_of};
+ghost use Rattle.deal_core.specs.Positions.{IsFaultOfLines};
 ghost use Rattle.deal_core.specs.declared.deal_fault.DealFault.{DealFault};
 ghost use Rattle.deal_core.specs.Deals.{DealTold};
 ghost use Rattle.deal_core.specs.DealText.{deal_text, IsSpellable};
@@ -15,10 +14,9 @@ use line_text::laws::{
     plain_words, spelled_words_of, words_of_spelled_words,
 };
 
-/// The fault that is answered is that of the first line that has one.
+/// Reading finds exactly the fault of the first line that has one, or of the line that is lacking behind the last.
 pub fn first_line()
-    ensures { (text : List ℕ) (k : ℕ) (fault : DealFault) → IsFirstFault no_lines (lines_of text) k fault →
-        reading_of text ≡ Err fault }
+    ensures { (text : List ℕ) (fault : DealFault) → (reading_of text ≡ Err fault) ↔ IsFaultOfLines text fault }
 {}
 
 /// A text whose lines have no fault is that of a deal: its name, its house, two parties at least, and its steps.

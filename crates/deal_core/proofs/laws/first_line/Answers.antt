@@ -1,7 +1,5 @@
-use Rattle.line_text.specs.Lines.{lines_of}
-use Rattle.deal_core.specs.Drafts.{no_lines}
-use Rattle.deal_core.proofs.FirstFault.{first_read}
+use Rattle.deal_core.proofs.FirstFault.{fault_of_lines, lines_fault}
 use Rattle.deal_core.proofs.laws.first_line.Goals as goal
 
 pub returns : goal.returns
-returns c text k fault h = first_read no_lines (lines_of text) k fault h
+returns c text fault = (fault_of_lines text fault, lines_fault text fault)
