@@ -1,4 +1,5 @@
 pub mod Drafting
+mod Examples
 pub mod Finishing
 pub mod FirstFault
 pub mod HexAgain
