@@ -36,7 +36,7 @@ said_more draft (Some (line.House house)) none =
 said_more draft (Some (line.Party party)) none = omega (arith, length_push draft.parties party)
 said_more draft (Some (line.Step step)) none = omega (arith, length_push draft.steps (with_indices draft.parties step))
 
-line_more : (draft : Draft) (l : Line) → line_fault draft l ≡ None → lines_in (after_line draft l) ≡ lines_in draft + 1
+pub line_more : (draft : Draft) (l : Line) → line_fault draft l ≡ None → lines_in (after_line draft l) ≡ lines_in draft + 1
 line_more draft l none = said_more draft (said_by l) none
 
 -- ---- from the fault to reading

@@ -1,5 +1,6 @@
 pub mod Drafting
 mod Examples
+pub mod FaultLines
 pub mod Finishing
 pub mod FirstFault
 pub mod HexAgain

@@ -3,7 +3,7 @@ use Rattle.std.specs.Prelude.{ℕ, ◌≡◌, ◌+◌, ◌<◌, ◌⊎◌, false
 use Rattle.line_text.specs.Lines.{Line, lines_of}
 use Rattle.deal_core.specs.Drafts.{Draft, no_lines, line_fault, after_line, is_whole}
 use Rattle.deal_core.specs.declared.deal_fault.DealFault.{DealFault}
-use Rattle.deal_core.specs.declared.deal_fault.DealFault.TheVariants.{BadLine}
+use Rattle.deal_core.specs.declared.deal_fault.DealFault.TheVariants.{BadLine, PartyTwice, UnknownParty, SelfStep, ZeroAmount, TooMany, SumTooLarge, NotConnected, NoMemory}
 
 -- what lines come to, behind a draft
 abbrev pub after_lines : Draft → List Line → Draft
@@ -25,3 +25,15 @@ LacksLine lines fault =
 -- the fault of a text's lines: that of the first line that has one, or that of the line which is lacking
 abbrev pub IsFaultOfLines : List ℕ → DealFault → Type 0
 IsFaultOfLines text fault = ((k : ℕ) × IsFirstFault no_lines (lines_of text) k fault) ⊎ LacksLine (lines_of text) fault
+
+-- the number of the line that a fault tells
+abbrev pub line_told : DealFault → Option ℕ
+line_told (BadLine line) = Some line
+line_told (PartyTwice line) = Some line
+line_told (UnknownParty line) = Some line
+line_told (SelfStep line) = Some line
+line_told (ZeroAmount line) = Some line
+line_told (TooMany line) = Some line
+line_told (SumTooLarge line) = Some line
+line_told (NotConnected party) = None
+line_told NoMemory = None

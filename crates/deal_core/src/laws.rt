@@ -1,8 +1,9 @@
 //! Laws of deals and their texts.
 
-ghost use Rattle.std.specs.Prelude.{◌≡◌, ◌↔◌, ℕ, List, Result, Ok, Err};
-ghost use Rattle.deal_core.specs.Drafts.{Draft, reading_of};
-ghost use Rattle.deal_core.specs.Positions.{IsFaultOfLines};
+ghost use Rattle.std.specs.Prelude.{◌≡◌, ◌↔◌, ◌+◌, ℕ, List, Some, Result, Ok, Err};
+ghost use Rattle.line_text.specs.Lines.{lines_of};
+ghost use Rattle.deal_core.specs.Drafts.{Draft, no_lines, reading_of};
+ghost use Rattle.deal_core.specs.Positions.{IsFirstFault, IsFaultOfLines, line_told};
 ghost use Rattle.deal_core.specs.declared.deal_fault.DealFault.{DealFault};
 ghost use Rattle.deal_core.specs.Deals.{DealTold};
 ghost use Rattle.deal_core.specs.DealText.{deal_text, IsSpellable};
@@ -14,9 +15,12 @@ use line_text::laws::{
     plain_words, spelled_words_of, words_of_spelled_words,
 };
 
-/// Reading finds exactly the fault of the first line that has one, or of the line that is lacking behind the last.
+/// Reading finds exactly the fault of the first line that has one, or of the line that is lacking behind the last. The fault
+/// of a line tells its number, which counts from 1.
 pub fn first_line()
-    ensures { (text : List ℕ) (fault : DealFault) → (reading_of text ≡ Err fault) ↔ IsFaultOfLines text fault }
+    ensures fault { (text : List ℕ) (fault : DealFault) → (reading_of text ≡ Err fault) ↔ IsFaultOfLines text fault }
+    ensures number { (text : List ℕ) (k : ℕ) (fault : DealFault) → IsFirstFault no_lines (lines_of text) k fault →
+        line_told fault ≡ Some (k + 1) }
 {}
 
 /// A text whose lines have no fault is that of a deal: its name, its house, two parties at least, and its steps.
