@@ -2,10 +2,12 @@
 use Rattle.std.proofs.Common.{◌≡◌, ℕ, zero, suc, ◌<◌, List, [], ◌∷◌, ◌++◌, replicate, Some, Result, Ok, Err, arith, refl, ap}
 use Rattle.std.specs.Prelude.{codes}
 use Rattle.std.specs.List.{Contains, AllByRecursion}
+use Rattle.std.specs.Fmt.{digits}
 use Rattle.dh_base.specs.declared.id.Id.{Id}
 use Rattle.line_text.specs.Lines.{spelled_lines}
 use Rattle.line_text.specs.Reading.{name_word, amount_word}
 use Rattle.deal_core.specs.Deals.{matrix_of, Leads, IsConnected, IsJoined, IsFirstApart}
+use Rattle.deal_core.specs.DealText.{deal_text}
 use Rattle.deal_core.specs.IdWords.{id_word}
 use Rattle.deal_core.specs.Said.{deal_after, house_after, party_after, step_after}
 use Rattle.deal_core.specs.Drafts.{Draft, reading_of}
@@ -44,6 +46,12 @@ two = record {
 two_is_read : reads (codes "step a b bank gold 5" ∷ codes "step b a bank gold 7" ∷ []) ≡ Ok two
 unfolding name_word amount_word id_word deal_after house_after party_after step_after two
 two_is_read = refl
+
+two_is_spelled :
+    deal_text (record { id = id 0; house = id 0; name = codes "two"; parties = two.parties; steps = two.steps })
+    ≡ spelled_lines (heads ++ codes "step a b bank gold 5" ∷ codes "step b a bank gold 7" ∷ [])
+unfolding digits two
+two_is_spelled = refl
 
 a_step_is_missing : reads [] ≡ Err (BadLine 5)
 unfolding name_word amount_word id_word deal_after house_after party_after step_after
