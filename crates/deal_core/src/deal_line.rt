@@ -5,17 +5,17 @@ use dh_base::{Id, Name};
 
 /// A step as a line spells it, with the names of its parties.
 #[derive(Clone, Copy)]
-pub struct NamedStep {
-    pub from: Name,
-    pub to: Name,
-    pub ledger: Name,
-    pub asset: Name,
-    pub amount: u64,
+pub(crate) struct NamedStep {
+    pub(crate) from: Name,
+    pub(crate) to: Name,
+    pub(crate) ledger: Name,
+    pub(crate) asset: Name,
+    pub(crate) amount: u64,
 }
 
 /// What a line of a deal's text says.
 #[derive(Clone, Copy)]
-pub enum DealLine {
+pub(crate) enum DealLine {
     /// The deal's name.
     Deal { name: Name },
     /// The house in whose log the deal is decided.

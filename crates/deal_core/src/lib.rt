@@ -12,7 +12,7 @@
 
 pub mod deal;
 pub mod deal_fault;
-pub mod deal_line;
+mod deal_line;
 mod draft;
 mod id_word;
 pub mod laws;
