@@ -1,7 +1,10 @@
+pub mod Conserved
+pub mod Escrowed
 mod Examples
 pub mod Finding
 pub mod FirstOver
 pub mod Funding
 pub mod Least
+pub mod Moved
 pub mod Texts
 pub mod Transfers

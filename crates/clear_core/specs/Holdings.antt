@@ -1,5 +1,5 @@
 -- What parties hold while the steps of a deal are made, one after another.
-use Rattle.std.specs.Prelude.{ℕ, ◌≤◌, ◌+◌, ◌-◌, List, [], ◌∷◌, take}
+use Rattle.std.specs.Prelude.{ℕ, zero, suc, ◌≤◌, ◌+◌, ◌-◌, List, [], ◌∷◌, take}
 use Rattle.deal_core.specs.Deals.{amount_if}
 use Rattle.deal_core.specs.declared.step.Step.{Step}
 use Rattle.clear_core.specs.Clearing.{is_out, is_in, outgoing, incoming}
@@ -23,3 +23,8 @@ with_step holds step party ledger asset =
 abbrev pub Funds : Holdings → List Step → Type 0
 Funds begins [] = Unit {0}
 Funds begins (step ∷ steps) = (step.amount ≤ begins step.from step.ledger step.asset) × Funds (with_step begins step) steps
+
+-- what so many parties have together, where each has the value of its index
+abbrev pub of_all : (ℕ → ℕ) → ℕ → ℕ
+of_all value zero = 0
+of_all value (suc n) = of_all value n + value n

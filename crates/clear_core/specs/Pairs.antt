@@ -1,6 +1,8 @@
 -- The ledgers and assets that a deal moves.
-use Rattle.std.specs.Prelude.{Bool, true, Option, Some, None, List, [], fold, map}
+use Rattle.std.specs.Prelude.{◌≡◌, Bool, true, Option, Some, None, List, [], ◌∷◌, fold, map}
+use Rattle.std.specs.List.{Contains, AllByRecursion}
 use Rattle.std.specs.declared.cmp.Ordering.{Ordering}
+use Rattle.std.specs.declared.cmp.Ordering.TheVariants.{Less}
 use Rattle.std.specs.Ordering.{ordering_then, is_lt, nat_cmp}
 use Rattle.std.specs.Cmp.Lexicographic.{slice_cmp}
 use Rattle.std.specs.BTreeSet.{insert_key}
@@ -22,3 +24,12 @@ is_earlier pair (Some other) = is_lt (pair_cmp pair other)
 -- the pairs that the steps move, in ascending order, once each
 abbrev pub pairs_of : List Step → List Pair
 pairs_of steps = fold (insert_key pair_cmp) [] (map pair_of steps)
+
+-- a step moves the pair
+abbrev pub IsMoved : List Step → Pair → Type 0
+IsMoved steps pair = (step : Step) × Contains steps step × (pair_of step ≡ pair)
+
+-- each pair stands before all behind it
+abbrev pub Ascend : List Pair → Type 0
+Ascend [] = Unit {0}
+Ascend (pair ∷ pairs) = AllByRecursion (λ next. pair_cmp pair next ≡ Less) pairs × Ascend pairs

@@ -6,7 +6,7 @@
 //! - `planning`, `plan_act`: what a party does in a deal.
 //! - `checking`, `terms`, `limit`, `term_fault`: whether a deal keeps a party's terms.
 //! - `summary`: what a deal's clearing tells, as text.
-//! - `laws`: the needs are the least holdings that fund the steps.
+//! - `laws`: the needs are the least holdings that fund the steps, and together what is due; plans escrow exactly the needs.
 #![tactic(auto)]
 
 pub mod checking;

@@ -1,0 +1,5 @@
+use Rattle.clear_core.proofs.Escrowed.{escrowed_is_need, need_is_escrowed}
+use Rattle.clear_core.proofs.laws.escrowed_needs.Goals as goal
+
+pub returns : goal.returns
+returns c steps party ledger asset amount = (escrowed_is_need steps party ledger asset amount, need_is_escrowed steps party ledger asset amount)
