@@ -82,7 +82,7 @@ escrowed_is_need steps party ledger asset amount c = elim (head_or_tail Register
 -- ---- from the need to the plan
 
 -- what goes out goes out with a step
-some_moved : (steps : List Step) (party : ℕ) (ledger asset : List ℕ) → 0 < outgoing steps party ledger asset → IsMoved steps (record { ledger = ledger; asset = asset })
+pub some_moved : (steps : List Step) (party : ℕ) (ledger asset : List ℕ) → 0 < outgoing steps party ledger asset → IsMoved steps (record { ledger = ledger; asset = asset })
 some_moved [] party ledger asset some = absurd (omega (arith, some))
 some_moved (step ∷ steps) party ledger asset some = by_test (some_moved steps party ledger asset) (is_out party ledger asset step) refl
   where

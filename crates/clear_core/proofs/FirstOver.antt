@@ -1,12 +1,10 @@
 -- The first pair of which a deal asks too much, step by step.
-use Rattle.std.proofs.Common.{◌≡◌, ℕ, ◌≤◌, ◌<◌, inl, inr, Bool, true, false, cond, ◌&&◌, Option, Some, None, List, [], ◌∷◌, ◌++◌, length, take, get_or, suc, ◌+◌, arith, refl, sym, ap, subst, ◌∙◌, rules}
+use Rattle.std.proofs.Common.{◌≡◌, ℕ, ◌≤◌, ◌<◌, inl, inr, Bool, true, false, cond, ◌&&◌, Option, Some, None, List, [], ◌∷◌, ◌++◌, length, take, get_or, suc, ◌+◌, arith, refl, sym, ap, subst, ◌∙◌}
 use Rattle.std.specs.Prelude.{IfSome, IfNone}
 use Rattle.std.specs.List.{Contains}
 use Rattle.std.proofs.Math.Seq.{take-suc}
 use Rattle.std.proofs.lemmas.List.{take_all}
-use Rattle.std.specs.Cmp.{IsTotalOrder}
-use Rattle.std.specs.Cmp.Rules.{comparing}
-use Rattle.std.specs.Ordering.{is_lt, ordering_reverse}
+use Rattle.std.specs.Ordering.{is_lt}
 use Rattle.std.specs.declared.cmp.Ordering.{Ordering}
 use Rattle.std.specs.declared.cmp.Ordering.TheVariants.{Less, Equal, Greater}
 use Rattle.std.proofs.lemmas.Bool.{ltb-true, ltb-false}
@@ -17,9 +15,7 @@ use Rattle.clear_core.specs.Pairs.{pair_of, pair_cmp, is_earlier}
 use Rattle.clear_core.specs.TermsKept.{allowed_of, is_over, earlier_over, NoneOver, IsFirstOver}
 use Rattle.clear_core.specs.declared.limit.Limit.{Limit}
 use Rattle.clear_core.specs.declared.pair.Pair.{Pair}
-
-pair_total : IsTotalOrder pair_cmp
-pair_total = search (comparing, rules)
+use Rattle.clear_core.proofs.PairOrder.{pair_total, not_before_itself}
 
 -- the limits allow what the deal asks of the pair
 abbrev pub IsKept : List Step → ℕ → List Limit → Pair → Type 0
@@ -44,12 +40,6 @@ less Greater h = absurd cc
 
 not_less : (o : Ordering) → is_lt o ≡ false → o ≡ Less → ⊥
 not_less o h e = absurd (let t : is_lt o ≡ true = ap is_lt e in cc)
-
-not_before_itself : (pair : Pair) → pair_cmp pair pair ≡ Less → ⊥
-not_before_itself pair e =
-    let turned : pair_cmp pair pair ≡ ordering_reverse (pair_cmp pair pair) = pair_total.antisymm pair pair in
-    let both : Less ≡ Greater = sym e ∙ (turned ∙ ap ordering_reverse e) in
-    absurd cc
 
 -- a step that isn't over leaves what was found
 kept_more : (steps : List Step) (party : ℕ) (gives : List Limit) (front : List Step) (step : Step) (found : Option Pair) → Found steps party gives front found → (IsKept steps party gives (pair_of step)) → Found steps party gives (front ++ step ∷ []) found

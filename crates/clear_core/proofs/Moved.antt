@@ -1,17 +1,14 @@
 -- The pairs that steps move stand once each, in ascending order.
-use Rattle.std.proofs.Common.{◌≡◌, ℕ, zero, suc, ◌<◌, ◌⊎◌, inl, inr, List, [], ◌∷◌, length, map, fold, arith, refl, sym, ap, subst, ◌∙◌, rules}
+use Rattle.std.proofs.Common.{◌≡◌, ℕ, zero, suc, ◌<◌, ◌⊎◌, inl, inr, List, [], ◌∷◌, length, map, fold, arith, refl, sym, subst}
 use Rattle.std.specs.List.{Contains, AllByRecursion}
 use Rattle.std.specs.BTreeSet.{insert_key}
-use Rattle.std.specs.Cmp.{IsTotalOrder}
-use Rattle.std.specs.Cmp.Rules.{comparing}
-use Rattle.std.specs.Ordering.{match_ordering, ordering_reverse, nat_cmp}
-use Rattle.std.specs.Cmp.Lexicographic.{slice_cmp}
+use Rattle.std.specs.Ordering.{match_ordering}
 use Rattle.std.specs.declared.cmp.Ordering.{Ordering}
 use Rattle.std.specs.declared.cmp.Ordering.TheVariants.{Less, Equal, Greater}
-use Rattle.std.proofs.lemmas.Map.Lookups.{exact_bytes, exact_pairs}
 use Rattle.deal_core.specs.declared.step.Step.{Step}
 use Rattle.clear_core.specs.Pairs.{pair_of, pair_cmp, pairs_of, Ascend, IsMoved}
 use Rattle.clear_core.specs.declared.pair.Pair.{Pair}
+use Rattle.clear_core.proofs.PairOrder.{pair_total, pair_exact, turned}
 
 -- ---- elements
 
@@ -27,19 +24,6 @@ head_or_tail x xs y (suc k, lt, is) = inr (k, omega (arith, lt), is)
 
 pub none_in_empty : {X : Type 0} (y : X) → Contains [] y → ⊥
 none_in_empty y (k, lt, is) = omega (arith, lt)
-
--- ---- the order of pairs
-
-pair_total : IsTotalOrder pair_cmp
-pair_total = search (comparing, rules)
-
-pair_exact : (a b : Pair) → pair_cmp a b ≡ Equal → a ≡ b
-pair_exact a b e =
-    let both : (a.ledger, a.asset) ≡ (b.ledger, b.asset) = exact_pairs (slice_cmp nat_cmp) (slice_cmp nat_cmp) exact_bytes exact_bytes (a.ledger, a.asset) (b.ledger, b.asset) e in
-    ap (λ (p : List ℕ × List ℕ). record { ledger = p.0; asset = p.1 }) both
-
-turned : (a b : Pair) → pair_cmp a b ≡ Greater → pair_cmp b a ≡ Less
-turned a b e = pair_total.antisymm b a ∙ ap ordering_reverse e
 
 -- ---- one pair more
 

@@ -1,6 +1,7 @@
 -- What a party does in a deal: it registers the deal, escrows its needs, and makes its own steps.
-use Rattle.std.specs.Prelude.{ℕ, ◌==◌, nat_lt, if◌then◌else◌, List, [], ◌∷◌, ◌++◌}
-use Rattle.std.specs.List.{flat_map}
+use Rattle.std.specs.Prelude.{ℕ, ◌==◌, ◌&&◌, nat_lt, if◌then◌else◌, List, [], ◌∷◌, ◌++◌}
+use Rattle.std.specs.List.{flat_map, sum_by}
+use Rattle.std.specs.Str.{bytes_eq}
 use Rattle.deal_core.specs.declared.step.Step.{Step}
 use Rattle.clear_core.specs.Clearing.{need_of, turns_of}
 use Rattle.clear_core.specs.Pairs.{pairs_of}
@@ -32,3 +33,13 @@ transfers_behind party before (step ∷ steps) = transfer_of party before step +
 
 abbrev pub plan_of : List Step → ℕ → List PlanAct
 plan_of steps party = Register ∷ (escrows_of steps party (pairs_of steps) ++ transfers_behind party [] steps)
+
+-- what the act escrows of the asset on the ledger
+abbrev pub escrowed : List ℕ → List ℕ → PlanAct → ℕ
+escrowed ledger asset Register = 0
+escrowed ledger asset (Escrow on of amount) = if bytes_eq ledger on && bytes_eq asset of then amount else 0
+escrowed ledger asset (Transfer on turn to of amount) = 0
+
+-- what a plan escrows of it in all
+abbrev pub escrowed_in : List PlanAct → List ℕ → List ℕ → ℕ
+escrowed_in plan ledger asset = sum_by (escrowed ledger asset) plan

@@ -7,7 +7,7 @@ ghost use Rattle.deal_core.specs.Kept.{IsDeal};
 ghost use Rattle.clear_core.specs.Clearing.{need_of, due_of};
 ghost use Rattle.clear_core.specs.Holdings.{Holdings, Funds, of_all};
 ghost use Rattle.clear_core.specs.Pairs.{pairs_of, IsMoved, Ascend};
-ghost use Rattle.clear_core.specs.Plans.{plan_of};
+ghost use Rattle.clear_core.specs.Plans.{plan_of, escrowed_in};
 ghost use Rattle.deal_core.specs.declared.step.Step.{Step};
 ghost use Rattle.clear_core.specs.declared.pair.Pair.{Pair};
 ghost use Rattle.clear_core.specs.declared.plan_act.PlanAct.TheVariants.{Escrow};
@@ -33,9 +33,11 @@ pub fn moved_pairs()
     ensures ascend { (steps : List Step) → Ascend (pairs_of steps) }
 {}
 
-/// A plan escrows exactly the needs above 0.
+/// A plan escrows exactly the needs above 0, each once.
 pub fn escrowed_needs()
-    ensures { (steps : List Step) (party : ℕ) (ledger asset : List ℕ) (amount : ℕ) →
+    ensures total { (steps : List Step) (party : ℕ) (ledger asset : List ℕ) →
+        escrowed_in (plan_of steps party) ledger asset ≡ need_of steps party ledger asset }
+    ensures each { (steps : List Step) (party : ℕ) (ledger asset : List ℕ) (amount : ℕ) →
         Contains (plan_of steps party) (Escrow ledger asset amount)
         ↔ ((0 < amount) × (amount ≡ need_of steps party ledger asset)) }
 {}
