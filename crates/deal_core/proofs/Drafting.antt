@@ -3,7 +3,7 @@ use Rattle.std.proofs.Common.{◌≡◌, ℕ, suc, ◌+◌, ◌-◌, ◌^◌, �
 use Rattle.std.specs.List.{list_any, slice_get, AllByRecursion}
 use Rattle.std.specs.Option.{unwrap_or}
 use Rattle.std.specs.Str.{bytes_eq}
-use Rattle.std.proofs.lemmas.Bool.{ltb-false, leb-false, eqb-false, true≢false}
+use Rattle.std.proofs.lemmas.Bool.{ltb-false, leb-false, eqb-false, true≢false, and_parts, or_parts, not-false}
 use Rattle.std.proofs.lemmas.List.{append-nil, length_push}
 use Rattle.std.proofs.lemmas.List.Sums.{sum_by_push}
 use Rattle.std.proofs.lemmas.Slice.Eq.{bytes_eq-Decides}
@@ -17,21 +17,12 @@ use Rattle.deal_core.specs.declared.party.Party.{Party}
 use Rattle.deal_core.specs.declared.step.Step.{Step}
 use Rattle.deal_core.specs.declared.deal_line.NamedStep.{NamedStep}
 use Rattle.deal_core.specs.declared.deal_fault.DealFault.{DealFault}
-use Rattle.deal_core.proofs.Passing.{both_true, neither}
 
 -- ---- tests that found no fault
 
 pub unbroken : (broken : Bool) (fault : DealFault) (other : Option DealFault) → broken_if broken fault other ≡ None → (broken ≡ false) × (other ≡ None)
 unbroken true fault other h = absurd cc
 unbroken false fault other h = (refl, h)
-
-pub not_false : (b : Bool) → not b ≡ false → b ≡ true
-not_false true h = refl
-not_false false h = absurd cc
-
-pub not_true : (b : Bool) → not b ≡ true → b ≡ false
-not_true false h = refl
-not_true true h = absurd cc
 
 -- what a step without a fault is
 pub record IsGoodStep (parties : List Party) (steps : List Step) (step : NamedStep) : Type 0 where
@@ -50,8 +41,8 @@ good_step n parties steps step h =
     let c = unbroken _ _ _ b.1 in
     let d = unbroken _ _ _ c.1 in
     let e = unbroken _ _ _ d.1 in
-    let known = both_true _ _ (not_false _ a.0) in
-    let room = neither _ _ d.0 in
+    let known = and_parts _ _ (not-false _ a.0) in
+    let room = or_parts _ _ d.0 in
     record { from = known.0; to = known.1; different = b.0; some = c.0; few = room.0; ninth = room.1; small = e.0 }
 
 -- ---- parties
@@ -66,7 +57,7 @@ new_push before (p ∷ parties) party h name account =
 pub party_kept : (n : ℕ) (parties : List Party) (steps : List Step) (party : Party) → IsDraft parties steps → is_empty steps ≡ true → party_fault n parties party ≡ None → IsDraft (parties ++ party ∷ []) steps
 party_kept n parties [] party h none good =
     let a = unbroken _ _ _ good in
-    let new = neither _ _ a.0 in
+    let new = or_parts _ _ a.0 in
     let room = unbroken _ _ _ a.1 in
     record {
       few_parties = omega (arith, length_push parties party, leb-false 16 (length parties) room.0);
@@ -188,7 +179,7 @@ step_kept n parties steps step h none =
 pub party_taken : (draft : Draft) (said : DealLine) (party : Party) → said ≡ line.Party party → said_fault draft (Some said) ≡ None → IsDraft draft.parties draft.steps → IsDraft (draft.parties ++ party ∷ []) draft.steps
 party_taken draft said party is none h =
     let a = unbroken _ _ _ (ap (λ (s : DealLine). said_fault draft (Some s)) (sym is) ∙ none) in
-    party_kept _ draft.parties draft.steps party h (both_true _ _ (not_false _ a.0)).1 a.1
+    party_kept _ draft.parties draft.steps party h (and_parts _ _ (not-false _ a.0)).1 a.1
 
 pub step_taken : (draft : Draft) (said : DealLine) (step : NamedStep) → said ≡ line.Step step → said_fault draft (Some said) ≡ None → IsDraft draft.parties draft.steps → IsDraft draft.parties (draft.steps ++ with_indices draft.parties step ∷ [])
 step_taken draft said step is none h =

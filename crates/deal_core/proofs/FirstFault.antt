@@ -2,6 +2,7 @@
 use Rattle.std.proofs.Common.{◌≡◌, ℕ, zero, suc, ◌+◌, ◌<◌, ◌⊎◌, inl, inr, Bool, true, false, cond, Option, Some, None, List, [], ◌∷◌, length, Result, Ok, Err, arith, refl, sym, ap, ◌∙◌}
 use Rattle.std.specs.Prelude.{is_some}
 use Rattle.std.proofs.lemmas.List.{length_push}
+use Rattle.std.proofs.lemmas.Bool.{and_parts, not-false, not-true}
 use Rattle.line_text.specs.Lines.{Line, lines_of}
 use Rattle.deal_core.specs.Drafts.{Draft, no_lines, one_if, lines_in, said_fault, with_indices, with_said, line_fault, after_line, is_whole, whole, unless, reading_behind, reading_of}
 use Rattle.deal_core.specs.Said.{said_by}
@@ -10,8 +11,7 @@ use Rattle.deal_core.specs.declared.deal_fault.DealFault.{DealFault}
 use Rattle.deal_core.specs.declared.deal_fault.DealFault.TheVariants.{BadLine}
 use Rattle.deal_core.specs.declared.deal_line.DealLine.{DealLine}
 use Rattle.deal_core.specs.declared.deal_line.DealLine.TheVariants as line
-use Rattle.deal_core.proofs.Passing.{both_true}
-use Rattle.deal_core.proofs.Drafting.{unbroken, not_false, not_true}
+use Rattle.deal_core.proofs.Drafting.{unbroken}
 
 unless_some : (o : Option DealFault) (fault : DealFault) (rest : Result Draft DealFault) → o ≡ Some fault → unless o rest ≡ Err fault
 unless_some o fault rest e = rw e refl
@@ -28,10 +28,10 @@ not_yet o e = rw e refl
 said_more : (draft : Draft) (said : Option DealLine) → said_fault draft said ≡ None → lines_in (with_said draft said) ≡ lines_in draft + 1
 said_more draft None none = absurd cc
 said_more draft (Some (line.Deal name)) none =
-    let new : is_some draft.name ≡ false = not_true _ (not_false _ (unbroken _ _ _ none).0) in
+    let new : is_some draft.name ≡ false = not-true _ (not-false _ (unbroken _ _ _ none).0) in
     omega (arith, not_yet (is_some draft.name) new)
 said_more draft (Some (line.House house)) none =
-    let new : is_some draft.house ≡ false = not_true _ (both_true _ _ (not_false _ (unbroken _ _ _ none).0)).1 in
+    let new : is_some draft.house ≡ false = not-true _ (and_parts _ _ (not-false _ (unbroken _ _ _ none).0)).1 in
     omega (arith, not_yet (is_some draft.house) new)
 said_more draft (Some (line.Party party)) none = omega (arith, length_push draft.parties party)
 said_more draft (Some (line.Step step)) none = omega (arith, length_push draft.steps (with_indices draft.parties step))

@@ -1,13 +1,12 @@
 -- The bytes of hexadecimal digits, one after another.
 use Rattle.std.proofs.Common.{◌≡◌, ℕ, suc, ◌+◌, ◌-◌, ◌*◌, ◌/◌, ◌%◌, ◌<◌, ◌≤◌, ◌==◌, ◌⊎◌, inl, inr, Bool, true, false, ◌&&◌, ◌||◌, leb, List, [], ◌∷◌, ◌++◌, length, take, drop, get_or, set, arith, append_assoc, refl, sym, ap, ◌∙◌, IsTrue, eqb-true}
 use Rattle.std.specs.Fmt.{digit_glyph}
-use Rattle.std.proofs.lemmas.Bool.{leb-true, le-leb, lt-leb, lt-ltb, le-ltb}
+use Rattle.std.proofs.lemmas.Bool.{leb-true, le-leb, lt-leb, lt-ltb, le-ltb, and_parts}
 use Rattle.std.proofs.lemmas.Nat.{div-mul-add, div-add-mod'}
 use Rattle.dh_base.specs.Names.{is_digit}
 use Rattle.dh_base.specs.Spelled.{hex_byte, hex_text}
 use Rattle.std.proofs.Math.Seq.{drop-cons, take-suc-set}
 use Rattle.std.specs.List.{list_all}
-use Rattle.deal_core.proofs.Passing.{both_true}
 use Rattle.deal_core.specs.IdWords.{hex_value, is_hex_digit, is_id, bytes_of_hex}
 
 -- the byte of two digits
@@ -33,7 +32,7 @@ hex_more bytes word place fits within whole =
     ∙ (ap (λ (xs : List ℕ). take place bytes ++ xs) (sym (two_more word place within)) ∙ whole))
 
 pub id_long : (word : List ℕ) → IsTrue (is_id word) → length word ≡ 64
-id_long word h = eqb-true (length word) 64 (both_true (length word == 64) (list_all is_hex_digit word) h).0
+id_long word h = eqb-true (length word) 64 (and_parts (length word == 64) (list_all is_hex_digit word) h).0
 
 -- ---- digits and their values
 
@@ -52,8 +51,8 @@ ranges : (c : ℕ) → is_hex_digit c ≡ true → ((48 ≤ c) × (c ≤ 57)) �
 ranges c h = by_digit (is_digit c) refl h
   where
     by_digit : (b : Bool) → is_digit c ≡ b → (b || (leb 97 c && leb c 102)) ≡ true → ((48 ≤ c) × (c ≤ 57)) ⊎ ((97 ≤ c) × (c ≤ 102))
-    by_digit true e h = let p = both_true (leb 48 c) (leb c 57) e in inl (leb-true 48 c p.0, leb-true c 57 p.1)
-    by_digit false e h = let p = both_true (leb 97 c) (leb c 102) h in inr (leb-true 97 c p.0, leb-true c 102 p.1)
+    by_digit true e h = let p = and_parts (leb 48 c) (leb c 57) e in inl (leb-true 48 c p.0, leb-true c 57 p.1)
+    by_digit false e h = let p = and_parts (leb 97 c) (leb c 102) h in inr (leb-true 97 c p.0, leb-true c 102 p.1)
 
 byte_again : (c d : ℕ) → is_hex_digit c ≡ true → is_hex_digit d ≡ true → hex_byte (16 * hex_value c + hex_value d) ≡ c ∷ d ∷ []
 byte_again c d hc hd =
@@ -73,11 +72,11 @@ pub hex_again : (word : List ℕ) → IsEven (length word) → list_all is_hex_d
 hex_again [] even h = refl
 hex_again (c ∷ []) even h = absurd (omega (arith, even.twice))
 hex_again (c ∷ d ∷ cs) even h =
-    let first = both_true (is_hex_digit c) (list_all is_hex_digit (d ∷ cs)) h in
-    let second = both_true (is_hex_digit d) (list_all is_hex_digit cs) first.1 in
+    let first = and_parts (is_hex_digit c) (list_all is_hex_digit (d ∷ cs)) h in
+    let second = and_parts (is_hex_digit d) (list_all is_hex_digit cs) first.1 in
     let less : IsEven (length cs) = record { half = even.half - 1; twice = omega (arith, even.twice) } in
     ap (λ (ds : List ℕ). ds ++ hex_text (bytes_of_hex cs)) (byte_again c d first.0 second.0) ∙ ap (λ (ds : List ℕ). c ∷ d ∷ ds) (hex_again cs less second.1)
 
 pub id_again : (word : List ℕ) → IsTrue (is_id word) → hex_text (bytes_of_hex word) ≡ word
 id_again word h =
-    hex_again word (record { half = 32; twice = id_long word h }) (both_true (length word == 64) (list_all is_hex_digit word) h).1
+    hex_again word (record { half = 32; twice = id_long word h }) (and_parts (length word == 64) (list_all is_hex_digit word) h).1

@@ -7,7 +7,6 @@ pub mod HexAgain
 pub mod HexWords
 pub mod OneAnswer
 pub mod OneDeal
-pub mod Passing
 pub mod SaidAgain
 pub mod SaidReading
 pub mod Sums

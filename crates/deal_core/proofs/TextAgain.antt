@@ -4,7 +4,7 @@ use Rattle.std.specs.Prelude.{codes}
 use Rattle.std.specs.List.{list_any, AllByRecursion}
 use Rattle.std.specs.Option.{unwrap_or}
 use Rattle.std.specs.Str.{bytes_eq}
-use Rattle.std.proofs.lemmas.Bool.{lt-leb, le-leb, le-ltb, ne_eqb}
+use Rattle.std.proofs.lemmas.Bool.{lt-leb, le-leb, le-ltb, ne_eqb, or_parts}
 use Rattle.std.proofs.lemmas.List.{append-nil, length-append}
 use Rattle.std.proofs.lemmas.List.Folds.{list_any-append}
 use Rattle.std.proofs.lemmas.List.Sums.{sum_by-append, sum_by-cons}
@@ -24,7 +24,6 @@ use Rattle.deal_core.specs.declared.step.Step.{Step}
 use Rattle.deal_core.specs.declared.deal_line.NamedStep.{NamedStep}
 use Rattle.deal_core.specs.declared.deal_line.DealLine.{DealLine}
 use Rattle.deal_core.specs.declared.deal_line.DealLine.TheVariants as line
-use Rattle.deal_core.proofs.Passing.{neither}
 use Rattle.deal_core.proofs.Drafting.{IsGoodStep, chosen, otherwise}
 use Rattle.deal_core.proofs.Finishing.{made}
 use Rattle.deal_core.proofs.WordReading.{Words}
@@ -37,12 +36,12 @@ use Rattle.deal_core.proofs.SaidAgain.{PlainLaws, IsGoodLine, line_again, line_l
 new_at : (before ps : List Party) → AreNewBehind before ps → (j : ℕ) → j < length ps → list_any (is_named (party_name ps j)) before ≡ false
 new_at before [] h j lt = absurd (omega (arith, lt))
 new_at before (p ∷ ps) h zero lt = h.0
-new_at before (p ∷ ps) h (suc j) lt = (neither _ _ (sym (list_any-append (is_named (party_name ps j)) before (p ∷ [])) ∙ new_at (before ++ p ∷ []) ps h.2 j (omega (arith, lt)))).0
+new_at before (p ∷ ps) h (suc j) lt = (or_parts _ _ (sym (list_any-append (is_named (party_name ps j)) before (p ∷ [])) ∙ new_at (before ++ p ∷ []) ps h.2 j (omega (arith, lt)))).0
 
 other_named : (before : List Party) (p : Party) (ps : List Party) → AreNewBehind before (p ∷ ps) → (j : ℕ) → j < length ps → is_named (party_name ps j) p ≡ false
 other_named before p ps h j lt =
-    let both = neither _ _ (sym (list_any-append (is_named (party_name ps j)) before (p ∷ [])) ∙ new_at (before ++ p ∷ []) ps h.2 j lt) in
-    (neither (is_named (party_name ps j) p) false both.1).0
+    let both = or_parts _ _ (sym (list_any-append (is_named (party_name ps j)) before (p ∷ [])) ∙ new_at (before ++ p ∷ []) ps h.2 j lt) in
+    (or_parts (is_named (party_name ps j) p) false both.1).0
 
 same_name : (name : List ℕ) → bytes_eq name name ≡ true
 same_name name = (bytes_eq-Decides name name).1 refl

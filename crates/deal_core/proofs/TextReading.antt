@@ -2,7 +2,7 @@
 use Rattle.std.proofs.Common.{◌≡◌, ℕ, ◌+◌, ◌≤◌, Bool, true, false, cond, not, ◌&&◌, map, ◌⊎◌, inl, inr, Option, Some, None, List, [], ◌∷◌, ◌++◌, length, Result, Ok, Err, arith, append_assoc, refl, sym, ap, subst, ◌∙◌}
 use Rattle.std.specs.Prelude.{codes, is_some}
 use Rattle.std.specs.Fmt.{decimal}
-use Rattle.std.proofs.lemmas.Bool.{leb-true}
+use Rattle.std.proofs.lemmas.Bool.{leb-true, and_parts, not-false, not-true}
 use Rattle.std.proofs.lemmas.List.{append-nil}
 use Rattle.std.proofs.lemmas.List.Concat.{flat_map-append}
 use Rattle.dh_base.specs.Spelled.{hex_text}
@@ -20,8 +20,7 @@ use Rattle.deal_core.specs.declared.deal_line.DealLine.{DealLine}
 use Rattle.deal_core.specs.declared.deal_line.DealLine.TheVariants as line
 use Rattle.deal_core.specs.declared.deal_fault.DealFault.{DealFault}
 use Rattle.deal_core.specs.declared.deal_fault.DealFault.TheVariants.{BadLine}
-use Rattle.deal_core.proofs.Passing.{both_true}
-use Rattle.deal_core.proofs.Drafting.{unbroken, not_false, not_true, good_step, name_found}
+use Rattle.deal_core.proofs.Drafting.{unbroken, good_step, name_found}
 use Rattle.deal_core.proofs.WordReading.{NumberLaws, Words}
 use Rattle.deal_core.proofs.SaidReading.{said_words, words_found}
 
@@ -116,18 +115,18 @@ step_longer n draft step h enough none = by_house draft.name draft.house draft.p
 said_longer : (draft : Draft) (said : DealLine) → IsOrdered draft → said_fault draft (Some said) ≡ None → IsLonger draft said
 said_longer draft (line.Deal name) h none =
     let a = unbroken _ _ _ none in
-    deal_longer draft name h (not_true (is_some draft.name) (not_false _ a.0))
+    deal_longer draft name h (not-true (is_some draft.name) (not-false _ a.0))
 said_longer draft (line.House house) h none =
     let a = unbroken _ _ _ none in
-    let b = both_true _ _ (not_false _ a.0) in
-    house_longer draft house h b.0 (not_true (is_some draft.house) b.1)
+    let b = and_parts _ _ (not-false _ a.0) in
+    house_longer draft house h b.0 (not-true (is_some draft.house) b.1)
 said_longer draft (line.Party party) h none =
     let a = unbroken _ _ _ none in
-    let b = both_true _ _ (not_false _ a.0) in
+    let b = and_parts _ _ (not-false _ a.0) in
     party_longer draft party h b.0 (empty_is draft.steps b.1)
 said_longer draft (line.Step step) h none =
     let a = unbroken _ _ _ none in
-    step_longer _ draft step h (leb-true 2 (length draft.parties) (not_false _ a.0)) a.1
+    step_longer _ draft step h (leb-true 2 (length draft.parties) (not-false _ a.0)) a.1
 
 -- ---- all lines
 
