@@ -2,3 +2,4 @@ pub mod Promise
 pub mod Read
 pub mod Taken
 pub mod Written
+pub mod OneAnswer

@@ -53,3 +53,7 @@ IsRehearsed input NoMemory text = Never
 abbrev pub IsAnswer : Command → (input : List ℕ) → Ending → (text : List ℕ) → Type 0
 IsAnswer Clear input ending text = IsCleared input ending text
 IsAnswer Rehearse input ending text = IsRehearsed input ending text
+
+-- There is one answer to an input.
+abbrev pub IsOnlyAnswer : Command → (input : List ℕ) → Ending → (text : List ℕ) → Type 0
+IsOnlyAnswer command input ending text = (other : Ending) (told : List ℕ) → IsAnswer command input other told → (other ≡ ending) × (told ≡ text)
