@@ -4,7 +4,6 @@ use Rattle.std.proofs.Common.{lit≤}
 use Rattle.dh_base.specs.Faults.{HasRisen}
 use Rattle.dh_base.specs.Refusals.{Told, told_text}
 use Rattle.dh_base.specs.declared.refusal.FieldValue.TheVariants.{Number}
-use Rattle.keeper_core.specs.declared.store_fault.StoreFault.{StoreFault}
 use Rattle.keeper_core.specs.declared.store_fault.StoreFault.TheVariants.{Keeper, BadRow, NoMemory}
 use Rattle.keeper_core.specs.StoreFaults.{store_fault_told}
 use Rattle.key_ring.specs.Signers.{SignerTold, IsSpent}
@@ -27,17 +26,13 @@ few_sign_fields (KeysSpent used size) = lit≤ tt
 few_sign_fields (Store fault) = lit≤ tt
 
 -- Why a text is not kept: the keeper's count rose in that call, or memory ran out, which has no cause here.
-abbrev pub IsKeepFault : (before after : ℕ) → StoreFault → Type 0
-IsKeepFault before after Keeper = HasRisen before after
-IsKeepFault before after (BadRow tab key) = ⊥
-IsKeepFault before after NoMemory = Unit {0}
-
--- the same of a refusal that holds the fault
 abbrev pub IsStoreFault : (before after : ℕ) → SignFault → Type 0
 IsStoreFault before after (KeysSpent used size) = ⊥
-IsStoreFault before after (Store fault) = IsKeepFault before after fault
+IsStoreFault before after (Store Keeper) = HasRisen before after
+IsStoreFault before after (Store (BadRow tab key)) = ⊥
+IsStoreFault before after (Store NoMemory) = Unit {0}
 
 -- Why a text is refused: too few keys are left, or it is not kept.
 abbrev pub IsRefusedFor : SignerTold → List ℕ → ℕ → (before after : ℕ) → SignFault → Type 0
 IsRefusedFor signer text reserve before after (KeysSpent used size) = IsSpent signer text reserve used size
-IsRefusedFor signer text reserve before after (Store fault) = IsKeepFault before after fault
+IsRefusedFor signer text reserve before after (Store fault) = IsStoreFault before after (Store fault)

@@ -8,7 +8,7 @@ ghost use Rattle.keeper_core.specs.Keeping.{Applies, AppliesNoneOrAll};
 ghost use Rattle.keeper_core.specs.StoreFaults.{HasCause};
 ghost use Rattle.key_ring.specs.Saying.{Says};
 ghost use Rattle.key_ring.specs.Signers.{signer_ring, signer_account, key_of, key_for, envelope_by, with_text, after_signing, IsSpent};
-ghost use Rattle.key_ring.specs.SignFaults.{IsKeepFault, IsStoreFault, IsRefusedFor};
+ghost use Rattle.key_ring.specs.SignFaults.{IsStoreFault, IsRefusedFor};
 ghost use Rattle.key_ring.specs.UsedTexts.{StandsFor, IsKept, IsBacked, RowsStay, LacksForm, kept_change, changes_for};
 
 use crate::envelope::Envelope;
@@ -155,32 +155,16 @@ impl Signer {
         Ok(self.seal(q, ring, message))
     }
 
-    /// The text joins those that are signed once the keeper has it.
-    fn keep<K: Keeper>(&mut self, keeper: &mut K, text: &[u8]) -> Result<(), StoreFault>
-        requires { length self.old.texts < self.old.size }
-        ensures kept { OnOk result (self.new ≡ with_text self.old text.now) }
-        ensures unchanged { OnErr result (self.new ≡ self.old) }
-        ensures applies { OnOk result (Applies (K.tables keeper.old) (kept_change self.old text.now ∷ []) (K.tables keeper.new)) }
-        ensures none_or_all { OnErr result (AppliesNoneOrAll (K.tables keeper.old) (kept_change self.old text.now ∷ []) (K.tables keeper.new)) }
-        ensures as_before { OnErr result (K.stopped keeper.new ≡ K.stopped keeper.old → K.tables keeper.new ≡ K.tables keeper.old) }
-        ensures stopped { IsTrue (K.stopped keeper.old) → IsErr result × IsTrue (K.stopped keeper.new) }
-        ensures same_stop { OnOk result (K.stopped keeper.new ≡ K.stopped keeper.old) }
-        ensures cause { IfErr result (IsKeepFault (K.faults keeper.old) (K.faults keeper.new)) }
-        ensures count { K.faults keeper.old ≤ K.faults keeper.new }
+    /// What is committed for a text that no key has signed.
+    fn batch_for(&self, text: &[u8]) -> Result<Batch, NoMemory>
+        ensures { IfOk result (λ batch. batch ≡ kept_change self.now text.now ∷ []) }
     {
-        let q = u32::from(self.used());
         let mut batch = Batch::new(self.alloc);
-        batch.put(USED_TAB, &key_bytes(q), text)?;
-        let copy = Vec::from_slice(self.alloc, text)?;
-        self.texts.push(List::from_vec(copy))?;
-        let committed = keeper.commit(&batch);
-        if committed.is_err() {
-            self.texts.pop();
-        }
-        Ok(committed?)
+        batch.put(USED_TAB, &key_bytes(u32::from(self.used())), text)?;
+        Ok(batch)
     }
 
-    /// The envelope of a text that no key has signed.
+    /// The envelope of a text that no key has signed, once the keeper has the text.
     fn sign_new<K: Keeper>(&mut self, keeper: &mut K, text: &[u8]) -> Result<Envelope, SignFault>
         requires { length self.old.texts < self.old.size }
         ensures envelope { IfOk result (λ env. env ≡ envelope_by self.old (length self.old.texts) text.now) }
@@ -195,10 +179,16 @@ impl Signer {
         ensures cause { IfErr result (IsStoreFault (K.faults keeper.old) (K.faults keeper.new)) }
         ensures count { K.faults keeper.old ≤ K.faults keeper.new }
     {
+        let q = u32::from(self.used());
         let ring = self.ring_copied()?;
         let message = Vec::from_slice(self.alloc, text)?;
-        let q = u32::from(self.used());
-        self.keep(keeper, text)?;
+        let batch = self.batch_for(text)?;
+        self.texts
+            .push(List::from_vec(Vec::from_slice(self.alloc, text)?))?;
+        if let Err(fault) = keeper.commit(&batch) {
+            self.texts.pop();
+            return Err(SignFault::from(fault));
+        }
         Ok(self.seal(q, ring, message))
     }
 
