@@ -46,3 +46,8 @@ HasCause LacksForm told before after NoMemory = Unit {0}
 abbrev pub store_fault_of : KeepFault → StoreFault
 store_fault_of Failed = Keeper
 store_fault_of KeeperNoMemory = NoMemory
+
+-- the text of a keeper's fault
+abbrev pub keep_fault_text : KeepFault → List ℕ
+keep_fault_text Failed = codes "failed"
+keep_fault_text KeeperNoMemory = codes "no memory"

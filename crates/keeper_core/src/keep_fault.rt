@@ -58,6 +58,11 @@ impl<T: Drop> From<AllocFailed<T>> for KeepFault {
 }
 
 impl fmt::Display for KeepFault {
+    ghost use Rattle.std.specs.Prelude.{Some};
+    ghost use Rattle.keeper_core.specs.StoreFaults.{keep_fault_text};
+
+    ghost output = { λ fault. Some (keep_fault_text fault) };
+
     fn fmt<W: fmt::Write>(&self, f: &mut fmt::Formatter<W>) -> fmt::Result {
         match self {
             KeepFault::Failed => f.write_str("failed"),
