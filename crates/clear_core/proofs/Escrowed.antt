@@ -1,6 +1,6 @@
 -- A plan escrows exactly the needs above 0.
-use Rattle.std.proofs.Common.{◌≡◌, ℕ, zero, suc, ◌+◌, ◌<◌, ◌⊎◌, inl, inr, Bool, true, false, cond, ltb, ◌&&◌, ◌==◌, List, [], ◌∷◌, ◌++◌, arith, refl, sym, ap, subst, ◌∙◌}
-use Rattle.std.specs.List.{Contains, flat_map}
+use Rattle.std.proofs.Common.{◌≡◌, ℕ, ◌+◌, ◌<◌, inl, inr, Bool, true, false, cond, ltb, ◌==◌, List, [], ◌∷◌, ◌++◌, arith, refl, sym, ap, subst, ◌∙◌}
+use Rattle.std.specs.List.{Contains}
 use Rattle.std.specs.Str.{bytes_eq}
 use Rattle.std.proofs.lemmas.Bool.{ltb-true, lt-ltb, and_parts}
 use Rattle.std.proofs.lemmas.List.Elements.{Contains-append_left, Contains-append_right, Contains-append_cases}
@@ -9,7 +9,7 @@ use Rattle.std.proofs.lemmas.Slice.Eq.{bytes_eq-Decides}
 use Rattle.deal_core.specs.Deals.{is_of, amount_if}
 use Rattle.deal_core.specs.declared.step.Step.{Step}
 use Rattle.clear_core.specs.Clearing.{is_out, outgoing, need_of, turns_of}
-use Rattle.clear_core.specs.Pairs.{pair_of, pairs_of, IsMoved}
+use Rattle.clear_core.specs.Pairs.{pairs_of, IsMoved}
 use Rattle.clear_core.specs.Plans.{escrow_of, escrows_of, transfer_of, transfers_behind, plan_of}
 use Rattle.clear_core.specs.declared.pair.Pair.{Pair}
 use Rattle.clear_core.specs.declared.plan_act.PlanAct.{PlanAct}

@@ -7,7 +7,7 @@ use Rattle.std.specs.declared.cmp.Ordering.TheVariants.{Less}
 use Rattle.deal_core.specs.Deals.{DealTold}
 use Rattle.deal_core.specs.declared.party.Party.{Party}
 use Rattle.deal_core.specs.declared.step.Step.{Step}
-use Rattle.clear_core.specs.Clearing.{need_of, due_of, turns_of}
+use Rattle.clear_core.specs.Clearing.{need_of, due_of}
 use Rattle.clear_core.specs.Pairs.{pair_of, pair_cmp, pairs_of}
 use Rattle.clear_core.specs.Plans.{plan_of}
 use Rattle.clear_core.specs.Summaries.{clearing_of}
