@@ -1,5 +1,5 @@
 -- What stands in a keeper once a signer has answered.
-use Rattle.std.proofs.Common.{◌≡◌, ℕ, zero, suc, ◌+◌, ◌<◌, ◌≤◌, Bool, true, false, List, [], ◌∷◌, ◌++◌, length, slice_get, Option, Some, None, IfSome, inl, inr, Result, Ok, Err, IsErr, OnOk, OnErr, refl, sym, ap, subst, ◌∙◌, arith}
+use Rattle.std.proofs.Common.{◌≡◌, ℕ, zero, suc, ◌+◌, ◌<◌, ◌≤◌, Bool, true, false, List, [], ◌∷◌, ◌++◌, length, slice_get, Option, Some, None, IfSome, ◌⊎◌, inl, inr, Result, Ok, Err, IsErr, OnOk, OnErr, refl, sym, ap, subst, ◌∙◌, arith}
 use Rattle.std.specs.Int.{w32, to_be_bytes}
 use Rattle.std.specs.List.{position_from}
 use Rattle.std.specs.Str.{bytes_eq}
@@ -171,3 +171,12 @@ asked_kept (Err e) told after stopped halts signer next text a = tt
 pub on_ok : {A E P : Type 0} (answer : Result A E) → P → OnOk answer P
 on_ok (Ok x) holds = holds
 on_ok (Err e) holds = tt
+
+no_error : {A E : Type 0} (x : A) (fault : E) → ◌≡◌ {A = Result A E} (Ok x) (Err fault) → ⊥
+no_error x fault e = cc
+
+-- a call that succeeded didn't fail so
+pub ok_stays : {A E P : Type 0} (answer : Result A E) (fault : E) → (answer ≡ Err fault) ⊎ P → OnOk answer P
+ok_stays (Ok x) fault (inl failed) = absurd (no_error x fault failed)
+ok_stays (Ok x) fault (inr stays) = stays
+ok_stays (Err e) fault either = tt

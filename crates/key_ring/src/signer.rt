@@ -1,6 +1,6 @@
 //! Signers.
 
-ghost use Rattle.std.specs.Prelude.{◌≡◌, ◌↔◌, ◌≤◌, ◌<◌, ◌+◌, ℕ, [], ◌∷◌, length, slice_get, None, Err, MatchResult, IsErr, IfOk, IfErr, IfSome, OnOk, OnErr, IsTrue, is_some};
+ghost use Rattle.std.specs.Prelude.{◌≡◌, ◌↔◌, ◌≤◌, ◌<◌, ◌+◌, ◌⊎◌, ℕ, [], ◌∷◌, length, slice_get, None, Err, MatchResult, IsErr, IfOk, IfErr, IfSome, OnOk, OnErr, IsTrue, is_some};
 ghost use Rattle.std.specs.Option.{option_copied};
 ghost use Rattle.std.specs.Result.{IsErrOf};
 ghost use Rattle.sha2.specs.Sha256.{sha256};
@@ -175,7 +175,7 @@ impl Signer {
         ensures none_or_all { OnErr result (AppliesNoneOrAll (K.tables keeper.old) (kept_change self.old text.now ∷ []) (K.tables keeper.new)) }
         ensures as_before { OnErr result (K.stopped keeper.new ≡ K.stopped keeper.old → K.tables keeper.new ≡ K.tables keeper.old) }
         ensures stopped { IsTrue (K.stopped keeper.old) → IsErr result × IsTrue (K.stopped keeper.new) }
-        ensures same_stop { OnOk result (K.stopped keeper.new ≡ K.stopped keeper.old) }
+        ensures same_stop { IsErrOf result (SignFault.Store StoreFault.Keeper) ⊎ (K.stopped keeper.new ≡ K.stopped keeper.old) }
         ensures cause { IfErr result (IsStoreFault (K.faults keeper.old) (K.faults keeper.new)) }
         ensures count { K.faults keeper.old ≤ K.faults keeper.new }
     {
@@ -213,10 +213,11 @@ impl Signer {
         ensures cause { IfErr result (IsRefusedFor self.old text.now reserve (K.faults keeper.old) (K.faults keeper.new)) }
         ensures applies { OnOk result (Applies (K.tables keeper.old) (changes_for self.old text.now) (K.tables keeper.new)) }
         ensures none_or_all { OnErr result (AppliesNoneOrAll (K.tables keeper.old) (changes_for self.old text.now) (K.tables keeper.new)) }
+        ensures as_before { OnErr result (K.stopped keeper.new ≡ K.stopped keeper.old → K.tables keeper.new ≡ K.tables keeper.old) }
         ensures no_call { (key_of self.old text.now ≡ None → self.old.size ≤ length self.old.texts + reserve) → keeper.new ≡ keeper.old }
         ensures rows_stay { RowsStay (K.tables keeper.old) (K.tables keeper.new) }
         ensures backed { IsBacked (K.tables keeper.new) (K.stopped keeper.new) self.new.texts }
-        ensures same_stop { OnOk result (K.stopped keeper.new ≡ K.stopped keeper.old) }
+        ensures same_stop { IsErrOf result (SignFault.Store StoreFault.Keeper) ⊎ (K.stopped keeper.new ≡ K.stopped keeper.old) }
         ensures count { K.faults keeper.old ≤ K.faults keeper.new }
     {
         let used = self.used();

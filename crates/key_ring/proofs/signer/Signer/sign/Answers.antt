@@ -1,8 +1,10 @@
 use Rattle.std.proofs.Common.{◌≤◌, ◌<◌, length, sym, subst, arith, Option, ℕ, IfSome, OnOk}
 use Rattle.std.specs.Option.{unwrap_or}
 use Rattle.keeper_core.specs.Tables.{Tables}
+use Rattle.keeper_core.specs.declared.store_fault.StoreFault.TheVariants.{Keeper}
+use Rattle.key_ring.specs.declared.sign_fault.SignFault.TheVariants.{Store}
 use Rattle.key_ring.specs.UsedTexts.{IsKept}
-use Rattle.key_ring.proofs.Kept.{Asked, again_kept, asked_backed, asked_rows, asked_kept, on_ok}
+use Rattle.key_ring.proofs.Kept.{Asked, again_kept, asked_backed, asked_rows, asked_kept, on_ok, ok_stays}
 use Rattle.key_ring.proofs.signer.Signer.sign.Given.{Over}
 use Rattle.key_ring.proofs.signer.Signer.sign.Goals as goal
 
@@ -22,7 +24,7 @@ returns-in-Some-clause-says g c = let s = c.sign_again.ensures.says in rw (sym c
 asked : (g : Over) (c : goal.After-sign_new g) → Asked c.sign_new.result (g.K.Keeper.tables c.args.keeper.now) (g.K.Keeper.tables c.sign_new.new.keeper) (g.K.Keeper.stopped c.args.keeper.now) (g.K.Keeper.stopped c.sign_new.new.keeper) c.args.self.now c.sign_new.new.self c.args.text.now
 asked g c =
     let s = c.sign_new.ensures in
-    record { backed = c.requires.backed; signed = s.kept; unchanged = s.unchanged; applies = s.applies; none_or_all = s.none_or_all; as_before = s.as_before; stops = s.stopped; same_stop = s.same_stop }
+    record { backed = c.requires.backed; signed = s.kept; unchanged = s.unchanged; applies = s.applies; none_or_all = s.none_or_all; as_before = s.as_before; stops = s.stopped; same_stop = ok_stays c.sign_new.result (Store Keeper) s.same_stop }
 
 few_signed : (g : Over) (c : goal.After-sign_new g) → length c.args.self.now.texts < 64
 few_signed g c = omega (arith, c.used-used.ensures.used, c.size-size.ensures.few, c.if-size-reserve.false)
