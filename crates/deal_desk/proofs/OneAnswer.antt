@@ -7,7 +7,7 @@ use Rattle.deal_core.specs.declared.deal_fault.DealFault.TheVariants.{NoMemory a
 use Rattle.deal_core.proofs.OneAnswer.{one_answer as one_reading}
 use Rattle.clear_core.specs.Summaries.{clearing_of}
 use Rattle.plain_script.specs.Reading.{Refused as RefusedAt}
-use Rattle.deal_desk.specs.Answers.{refused_line, refused_deal_line, IsCleared, IsRehearsed, IsAnswer, IsOnlyAnswer}
+use Rattle.deal_desk.specs.Answers.{refused_line, refused_deal_line, IsCleared, IsRehearsed, IsAnswer, IsTheAnswer}
 use Rattle.deal_desk.specs.declared.answer.Answer.{Answer}
 use Rattle.deal_desk.specs.declared.command.Command.{Command}
 use Rattle.deal_desk.specs.declared.command.Command.TheVariants.{Clear, Rehearse}
@@ -107,11 +107,14 @@ rehearsed input (Refused line rule) text h InputFailed told k = never k
 rehearsed input (Refused line rule) text h OutputFailed told k = never k
 rehearsed input (Refused line rule) text h NoMemory told k = never k
 
-pub one_answer : (command : Command) (input : List ℕ) (ending : Ending) (text : List ℕ) → IsAnswer command input ending text → IsOnlyAnswer command input ending text
+one_answer : (command : Command) (input : List ℕ) (ending : Ending) (text : List ℕ) → IsAnswer command input ending text → (other : Ending) (told : List ℕ) → IsAnswer command input other told → (other ≡ ending) × (told ≡ text)
 one_answer Clear input ending text h = cleared input ending text h
 one_answer Rehearse input ending text h = rehearsed input ending text h
 
--- the answer that is given is the only one
-pub given_only : {E : Type 0} (command : Command) (input : List ℕ) (given : Result Answer E) → IfOk given (λ answer. IsAnswer command input answer.ending answer.text) → IfOk given (λ answer. IsOnlyAnswer command input answer.ending answer.text)
-given_only command input (Ok answer) is = one_answer command input answer.ending answer.text is
-given_only command input (Err error) is = tt
+-- an answer is the only one
+pub the_answer : (command : Command) (input : List ℕ) (ending : Ending) (text : List ℕ) → IsAnswer command input ending text → IsTheAnswer command input ending text
+the_answer command input ending text is = (is, one_answer command input ending text is)
+
+pub given_is_the : {E : Type 0} (command : Command) (input : List ℕ) (given : Result Answer E) → IfOk given (λ answer. IsAnswer command input answer.ending answer.text) → IfOk given (λ answer. IsTheAnswer command input answer.ending answer.text)
+given_is_the command input (Ok answer) is = the_answer command input answer.ending answer.text is
+given_is_the command input (Err error) is = tt

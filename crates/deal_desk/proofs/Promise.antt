@@ -14,7 +14,7 @@ Reports left left_after output output_after = IfSome left (λ script. (left_afte
 
 reported_keeps : (left left_after : Option (List ℕ)) (output output_after : SinkSeen) → Reports left left_after output output_after → IfSome left (λ script. (report : List ℕ) × Wrote output report output_after × TellsOneLog script report)
 reported_keeps None left_after output output_after ended = tt
-reported_keeps (Some script) left_after output output_after ended = (ended.1.0, ended.1.2, one_log script ended.1.0 ended.1.1)
+reported_keeps (Some script) left_after output output_after ended = (ended.1.0, ended.1.2, one_log script ended.1.0 ended.1.1.0)
 
 rehearsed_keeps : (ending : Ending) (status : ℕ) (words : List (List ℕ)) (input input_after : SourceSeen) (output output_after : SinkSeen) → status ≡ status_of ending → IsCarriedOut Rehearse ending input input_after output output_after → KeepsOneLog status words input output output_after
 rehearsed_keeps Done status words input input_after output output_after is ended = λ none asked. reported_keeps input.left input_after.left output output_after ended

@@ -9,6 +9,7 @@ use Rattle.plain_core.specs.Reports.{answered_report, report_behind, rehearsal_o
 use Rattle.deal_desk.specs.Answers.{IsCleared, IsRehearsed, IsAnswer}
 use Rattle.deal_desk.specs.Commands.{command_of}
 use Rattle.deal_desk.specs.Endings.{SourceSeen, SinkSeen, WroteAnswer, WroteAnswerFront, usage_text, Says, IsTold, IsCarriedOut, IsEnding}
+use Rattle.deal_desk.proofs.OneAnswer.{the_answer}
 use Rattle.deal_desk.specs.Inputs.{most_read, unread, WasRead, GaveFront}
 use Rattle.deal_desk.specs.declared.command.Command.{Command}
 use Rattle.deal_desk.specs.declared.command.Command.TheVariants.{Clear, Rehearse}
@@ -82,10 +83,12 @@ done_short Rehearse all text told = reported_short all text told
 -- ---- endings
 
 wrote_of_all : (command : Command) (all bytes : List ℕ) (ending : Ending) (before after : SinkSeen) → bytes ≡ take most_read all → WroteAnswer command bytes ending before after → WroteAnswer command all ending before after
-wrote_of_all command all bytes ending before after read told = (told.0, answer_of_all command all bytes ending told.0 read told.1, told.2)
+wrote_of_all command all bytes ending before after read told =
+    (told.0, the_answer command all ending told.0 (answer_of_all command all bytes ending told.0 read told.1.0), told.2)
 
 front_of_all : (command : Command) (all bytes : List ℕ) (before after : SinkSeen) → bytes ≡ take most_read all → WroteAnswerFront command bytes before after → WroteAnswerFront command all before after
-front_of_all command all bytes before after read told = (told.0, told.1, answer_of_all command all bytes told.0 told.1 read told.2, told.3)
+front_of_all command all bytes before after read told =
+    (told.0, told.1, the_answer command all told.0 told.1 (answer_of_all command all bytes told.0 told.1 read told.2.0), told.3)
 
 none_unread : (all : List ℕ) → length all ≤ most_bytes → Some (unread all) ≡ Some []
 none_unread all small = ap Some (drop_of_length-le all {i = most_read} (omega (arith, small)))
@@ -101,7 +104,7 @@ read_and_told command ending input input_after output output_after bytes all_byt
     by : (e : Ending) (left : Option (List ℕ)) → WasRead left bytes input_after.left → IsTold command e bytes output output_after → IsCarriedOut command e (record { left = left; faults = input.faults }) input_after output output_after
     by Done None r t = tt
     by Done (Some all) r t =
-        (r.1 ∙ none_unread all (done_short command all t.0 (answer_of_all command all bytes Done t.0 r.0 t.1)), wrote_of_all command all bytes Done output output_after r.0 t)
+        (r.1 ∙ none_unread all (done_short command all t.0 (answer_of_all command all bytes Done t.0 r.0 t.1.0)), wrote_of_all command all bytes Done output output_after r.0 t)
     by Usage left r t = absurd (true_not_false t)
     by (RefusedEnding line rule) None r t = tt
     by (RefusedEnding line rule) (Some all) r t = (r.1, wrote_of_all command all bytes (RefusedEnding line rule) output output_after r.0 t)

@@ -54,6 +54,7 @@ abbrev pub IsAnswer : Command → (input : List ℕ) → Ending → (text : List
 IsAnswer Clear input ending text = IsCleared input ending text
 IsAnswer Rehearse input ending text = IsRehearsed input ending text
 
--- There is one answer to an input.
-abbrev pub IsOnlyAnswer : Command → (input : List ℕ) → Ending → (text : List ℕ) → Type 0
-IsOnlyAnswer command input ending text = (other : Ending) (told : List ℕ) → IsAnswer command input other told → (other ≡ ending) × (told ≡ text)
+-- This is the answer to the input, and there is no other.
+abbrev pub IsTheAnswer : Command → (input : List ℕ) → Ending → (text : List ℕ) → Type 0
+IsTheAnswer command input ending text =
+    IsAnswer command input ending text × ((other : Ending) (told : List ℕ) → IsAnswer command input other told → (other ≡ ending) × (told ≡ text))

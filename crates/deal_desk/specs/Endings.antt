@@ -3,7 +3,7 @@ use Rattle.std.specs.Prelude.{ℕ, ◌≡◌, ◌⊎◌, List, [], ◌∷◌, �
 use Rattle.dh_base.specs.Faults.{HasRisen}
 use Rattle.dh_base.specs.Outside.{Gains}
 use Rattle.plain_core.specs.OneLog.{TellsOneLog}
-use Rattle.deal_desk.specs.Answers.{Never, IsAnswer}
+use Rattle.deal_desk.specs.Answers.{Never, IsTheAnswer}
 use Rattle.deal_desk.specs.Commands.{command_of}
 use Rattle.deal_desk.specs.Inputs.{unread, GaveFront}
 use Rattle.deal_desk.specs.declared.command.Command.{Command}
@@ -47,11 +47,11 @@ Says wanted ending before text after = ((ending ≡ wanted) × Wrote before text
 
 -- the whole answer was written by which the command ends so
 abbrev pub WroteAnswer : Command → List ℕ → Ending → (before after : SinkSeen) → Type 0
-WroteAnswer command input ending before after = (text : List ℕ) × IsAnswer command input ending text × Wrote before text after
+WroteAnswer command input ending before after = (text : List ℕ) × IsTheAnswer command input ending text × Wrote before text after
 
--- first bytes of an answer were written
+-- first bytes of the answer were written
 abbrev pub WroteAnswerFront : Command → List ℕ → (before after : SinkSeen) → Type 0
-WroteAnswerFront command input before after = (ending : Ending) × (text : List ℕ) × IsAnswer command input ending text × WroteFront before text after
+WroteAnswerFront command input before after = (ending : Ending) × (text : List ℕ) × IsTheAnswer command input ending text × WroteFront before text after
 
 -- What is written for an input that was read: the whole answer, first bytes of it where the sink failed, and nothing where memory ran out.
 abbrev pub IsTold : Command → Ending → List ℕ → (before after : SinkSeen) → Type 0

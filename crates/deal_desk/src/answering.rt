@@ -1,7 +1,7 @@
 //! What each command answers to an input that was read.
 
 ghost use Rattle.std.specs.Prelude.{◌≤◌, length, IfOk};
-ghost use Rattle.deal_desk.specs.Answers.{IsCleared, IsRehearsed, IsAnswer, IsOnlyAnswer};
+ghost use Rattle.deal_desk.specs.Answers.{IsCleared, IsRehearsed, IsTheAnswer};
 ghost use Rattle.plain_script.specs.Reading.{most_bytes};
 
 use crate::answer::Answer;
@@ -49,8 +49,7 @@ fn rehearse(alloc: Global, input: &[u8]) -> Result<Answer, NoMemory>
 
 /// What the command answers to the input: its one answer.
 pub fn answer(alloc: Global, command: Command, input: &[u8]) -> Result<Answer, NoMemory>
-    ensures answer { IfOk result (λ answer. IsAnswer command input.now answer.ending answer.text) }
-    ensures only { IfOk result (λ answer. IsOnlyAnswer command input.now answer.ending answer.text) }
+    ensures { IfOk result (λ answer. IsTheAnswer command input.now answer.ending answer.text) }
 {
     match command {
         Command::Clear => clear(alloc, input),
