@@ -27,6 +27,7 @@ pub trait Keeper {
     fn get(&mut self, tab: u8, key: &[u8]) -> Result<Option<List<u8>>, KeepFault>
         ensures answers { IfOk result (AnswersByMap (tables self.old) tab key.now) }
         ensures failed { IsErrOf result KeepFault.Failed → HasRisen (faults self.old) (faults self.new) }
+        ensures quiet { OnOk result (faults self.new ≡ faults self.old) }
         ensures unchanged { tables self.new ≡ tables self.old }
         ensures same_stop { stopped self.new ≡ stopped self.old }
         ensures stopped { IsTrue (stopped self.old) → IsErrOf result KeepFault.Failed }
@@ -36,6 +37,7 @@ pub trait Keeper {
     fn scan(&mut self, tab: u8) -> Result<List<Row>, KeepFault>
         ensures lists { IfOk result (ListsTable (tables self.old) tab) }
         ensures failed { IsErrOf result KeepFault.Failed → HasRisen (faults self.old) (faults self.new) }
+        ensures quiet { OnOk result (faults self.new ≡ faults self.old) }
         ensures unchanged { tables self.new ≡ tables self.old }
         ensures same_stop { stopped self.new ≡ stopped self.old }
         ensures stopped { IsTrue (stopped self.old) → IsErrOf result KeepFault.Failed }
@@ -49,6 +51,7 @@ pub trait Keeper {
         ensures unchanged { OnErr result (stopped self.new ≡ stopped self.old
             → tables self.new ≡ tables self.old) }
         ensures failed { IsErrOf result KeepFault.Failed → HasRisen (faults self.old) (faults self.new) }
+        ensures quiet { OnOk result (faults self.new ≡ faults self.old) }
         ensures same_stop { IsErrOf result KeepFault.Failed ⊎ (stopped self.new ≡ stopped self.old) }
         ensures stopped { IsTrue (stopped self.old)
             → IsErrOf result KeepFault.Failed × IsTrue (stopped self.new) }

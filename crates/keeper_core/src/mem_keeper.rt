@@ -156,6 +156,7 @@ impl Keeper for MemKeeper {
     fn get(&mut self, tab: u8, key: &[u8]) -> Result<Option<List<u8>>, KeepFault>
         ensures answers { IfOk result (AnswersByMap (Some self.old.tables) tab key.now) }
         ensures failed { IsErrOf result KeepFault.Failed → HasRisen self.old.faults self.new.faults }
+        ensures quiet { OnOk result (self.new.faults ≡ self.old.faults) }
         ensures unchanged { Some self.new.tables ≡ Some self.old.tables }
         ensures same_stop { self.new.stopped ≡ self.old.stopped }
         ensures stopped { IsTrue self.old.stopped → IsErrOf result KeepFault.Failed }
@@ -170,6 +171,7 @@ impl Keeper for MemKeeper {
     fn scan(&mut self, tab: u8) -> Result<List<Row>, KeepFault>
         ensures lists { IfOk result (ListsTable (Some self.old.tables) tab) }
         ensures failed { IsErrOf result KeepFault.Failed → HasRisen self.old.faults self.new.faults }
+        ensures quiet { OnOk result (self.new.faults ≡ self.old.faults) }
         ensures unchanged { Some self.new.tables ≡ Some self.old.tables }
         ensures same_stop { self.new.stopped ≡ self.old.stopped }
         ensures stopped { IsTrue self.old.stopped → IsErrOf result KeepFault.Failed }
@@ -189,6 +191,7 @@ impl Keeper for MemKeeper {
         ensures unchanged { OnErr result (self.new.stopped ≡ self.old.stopped
             → Some self.new.tables ≡ Some self.old.tables) }
         ensures failed { IsErrOf result KeepFault.Failed → HasRisen self.old.faults self.new.faults }
+        ensures quiet { OnOk result (self.new.faults ≡ self.old.faults) }
         ensures same_stop { IsErrOf result KeepFault.Failed ⊎ (self.new.stopped ≡ self.old.stopped) }
         ensures stopped { IsTrue self.old.stopped
             → IsErrOf result KeepFault.Failed × IsTrue self.new.stopped }

@@ -1,9 +1,8 @@
 //! Signers.
 
-ghost use Rattle.std.specs.Prelude.{◌≡◌, ◌↔◌, ◌≤◌, ◌<◌, ◌+◌, ◌⊎◌, ℕ, [], ◌∷◌, length, slice_get, None, Err, MatchResult, IsErr, IfOk, IfErr, IfSome, OnOk, OnErr, IsTrue, is_some};
+ghost use Rattle.std.specs.Prelude.{◌≡◌, ◌↔◌, ◌≤◌, ◌<◌, ◌+◌, ◌⊎◌, ℕ, [], ◌∷◌, length, slice_get, None, Err, MatchResult, IsErr, IfOk, IfErr, IfSome, OnOk, OnErr, IsTrue};
 ghost use Rattle.std.specs.Option.{option_copied};
 ghost use Rattle.std.specs.Result.{IsErrOf};
-ghost use Rattle.sha2.specs.Sha256.{sha256};
 ghost use Rattle.keeper_core.specs.Keeping.{Applies, AppliesNoneOrAll};
 ghost use Rattle.keeper_core.specs.StoreFaults.{HasCause};
 ghost use Rattle.key_ring.specs.Saying.{Says};
@@ -64,6 +63,7 @@ impl Signer {
         ensures stopped { IsTrue (K.stopped keeper.old) → IsErrOf result StoreFault.Keeper }
         ensures unchanged { K.tables keeper.new ≡ K.tables keeper.old }
         ensures same_stop { K.stopped keeper.new ≡ K.stopped keeper.old }
+        ensures quiet { OnOk result (K.faults keeper.new ≡ K.faults keeper.old) }
         ensures count { K.faults keeper.old ≤ K.faults keeper.new }
     {
         let rows = keeper.scan(USED_TAB)?;
@@ -177,6 +177,7 @@ impl Signer {
         ensures stopped { IsTrue (K.stopped keeper.old) → IsErr result × IsTrue (K.stopped keeper.new) }
         ensures same_stop { IsErrOf result (SignFault.Store StoreFault.Keeper) ⊎ (K.stopped keeper.new ≡ K.stopped keeper.old) }
         ensures cause { IfErr result (IsStoreFault (K.faults keeper.old) (K.faults keeper.new)) }
+        ensures quiet { OnOk result (K.faults keeper.new ≡ K.faults keeper.old) }
         ensures count { K.faults keeper.old ≤ K.faults keeper.new }
     {
         let q = u32::from(self.used());
@@ -218,6 +219,7 @@ impl Signer {
         ensures rows_stay { RowsStay (K.tables keeper.old) (K.tables keeper.new) }
         ensures backed { IsBacked (K.tables keeper.new) (K.stopped keeper.new) self.new.texts }
         ensures same_stop { IsErrOf result (SignFault.Store StoreFault.Keeper) ⊎ (K.stopped keeper.new ≡ K.stopped keeper.old) }
+        ensures quiet { OnOk result (K.faults keeper.new ≡ K.faults keeper.old) }
         ensures count { K.faults keeper.old ≤ K.faults keeper.new }
     {
         let used = self.used();
