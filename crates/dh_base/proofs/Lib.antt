@@ -1,5 +1,6 @@
 pub mod Characters
 pub mod Fields
+pub mod Formats
 pub mod Moving
 pub mod Writing
 pub mod NameReading

@@ -9,3 +9,4 @@ pub mod Calls
 pub mod Memory
 pub mod BaseFaults
 pub mod Fields
+pub mod Formats
