@@ -1,13 +1,14 @@
 -- Formats take what is spelled, and so do the formats that are joined of them.
-use Rattle.std.proofs.Common.{◌≡◌, ℕ, ◌+◌, ◌<◌, ◌≤◌, ◌^◌, ◌↔◌, zero, suc, Bool, true, false, cond, List, [], ◌∷◌, ◌++◌, length, Result, Ok, Err, refl, sym, ap, subst, ◌∙◌, arith, IsTrue}
+use Rattle.std.proofs.Common.{◌≡◌, ℕ, ◌+◌, ◌<◌, ◌≤◌, ◌^◌, ◌↔◌, zero, suc, Bool, true, false, cond, ltb, List, [], ◌∷◌, ◌++◌, length, Result, Ok, Err, refl, sym, ap, subst, ◌∙◌, arith, IsTrue}
 use Rattle.std.specs.List.{flat_map, AllByRecursion}
 use Rattle.std.specs.Int.{Width, byte_len, to_be_bytes, w32}
-use Rattle.std.proofs.lemmas.List.{length-append}
+use Rattle.std.proofs.lemmas.Bool.{ltb-false, le-ltb}
+use Rattle.std.proofs.lemmas.List.{length-append, take_all}
 use Rattle.dh_base.specs.declared.base_fault.BaseFault.{BaseFault}
 use Rattle.dh_base.specs.declared.id.Id.{Id}
 use Rattle.dh_base.specs.Names.{is_name}
 use Rattle.dh_base.specs.Fields.{◌>>=◌, AreBytes, StandsAt, bytes_at, number_at, id_at, name_at, name_field}
-use Rattle.dh_base.specs.Formats.{IsSpelledAt, TakesWhatIsSpelled, IsSpelledAfter, IsMadeOf, SpelledBy, SpelledWithin, NumberSpelled, IdSpelled, NameSpelled, TextSpelled, next_number, next_id, next_name, next_text, next_values, text_field, list_text, ListFits, or_fault, unless_out_of_range}
+use Rattle.dh_base.specs.Formats.{IsSpelledAt, TakesWhatIsSpelled, IsSpelledAfter, IsMadeOf, SpelledBy, SpelledWithin, NumberSpelled, IdSpelled, NameSpelled, TextSpelled, next_number, next_id, next_name, next_text, next_values, text_field, list_text, ListFits, or_fault, unless_out_of_range, whole_of}
 use Rattle.dh_base.proofs.Fields.{IsWide, wide32, bind_ok, stands-number, number-stands, stands-bytes, bytes-stands, stands-name, name-stands, StandsAt-append, StandsAt-parts}
 
 pair_is : {A B : Type 0} (x : A) (y : B) (pair : A × B) → x ≡ pair.0 → y ≡ pair.1 → (let made : A × B = (x, y) in made ≡ pair)
@@ -286,4 +287,30 @@ takes-list {A} {F} count fits_count count_text taken fits text_of takes_count ta
     spelled-values taken fits text_of takes read.0 bytes (at + length (count_text (length read.0))) read.1 are s.spelled.0.1 parts.1
     (omega (arith, s.next, ap length s.spelled.1, length-append (count_text (length read.0)) (flat_map text_of read.0))) in
     ap (λ (r : Result (ℕ × ℕ) F). r >>= behind) one ∙ two in
+    (onward, back)
+
+-- ---- all of the bytes
+
+abbrev rest_or_fault : {A F : Type 0} → (ℕ → F) → List ℕ → A × ℕ → Result A F
+rest_or_fault left_over bytes read = cond (ltb read.1 (length bytes)) (Err (left_over read.1)) (Ok read.0)
+
+pub reads-whole : {A F : Type 0} (left_over : ℕ → F) (taken : List ℕ → ℕ → Result (A × ℕ) F) (fits : A → Type 0) (text_of : A → List ℕ) →
+    TakesWhatIsSpelled taken (SpelledBy fits text_of) →
+    (bytes : List ℕ) (value : A) → AreBytes bytes → (whole_of left_over taken bytes ≡ Ok value) ↔ (fits value × (bytes ≡ text_of value))
+reads-whole {A} {F} left_over taken fits text_of takes bytes value are =
+    let onward : whole_of left_over taken bytes ≡ Ok value → fits value × (bytes ≡ text_of value) =
+    λ e.
+    let a = bind_ok (taken bytes 0) (rest_or_fault left_over bytes) value e in
+    let s = (takes bytes 0 a.0 are).0 a.1 in
+    let passed = let_pass (ltb a.0.1 (length bytes)) (left_over a.0.1) a.0.0 value a.2 in
+    let none_left : length bytes ≤ a.0.1 = ltb-false a.0.1 (length bytes) passed.0 in
+    let whole : bytes ≡ s.text = sym (take_all (length s.text) bytes (omega (arith, s.next))) ∙ s.stands.here in
+    subst (λ (x : A). fits x × (bytes ≡ text_of x)) passed.1 (s.spelled.0, whole ∙ s.spelled.1) in
+    let back : fits value × (bytes ≡ text_of value) → whole_of left_over taken bytes ≡ Ok value =
+    λ (is, spelled).
+    let here : StandsAt bytes bytes 0 = record { fits = omega arith; here = take_all (length bytes) bytes (omega arith) } in
+    let one : taken bytes 0 ≡ Ok (value, length bytes) =
+    (takes bytes 0 (value, length bytes) are).1 (record { text = bytes; spelled = (is, spelled); stands = here; next = omega arith }) in
+    let none_left : ltb (length bytes) (length bytes) ≡ false = le-ltb (length bytes) (length bytes) (omega arith) in
+    ap (λ (r : Result (A × ℕ) F). r >>= rest_or_fault left_over bytes) one ∙ ap (λ (b : Bool). cond b (Err (left_over (length bytes))) (Ok value)) none_left in
     (onward, back)

@@ -1,5 +1,5 @@
 -- Formats: how the values of a type are spelled, and how they are taken at a place, one field behind another.
-use Rattle.std.specs.Prelude.{ℕ, ◌≡◌, ◌+◌, ◌<◌, ◌^◌, ◌↔◌, Bool, false, zero, suc, if◌then◌else◌, List, [], ◌∷◌, ◌++◌, length, IsTrue, Result, Ok, Err}
+use Rattle.std.specs.Prelude.{ℕ, ◌≡◌, ◌+◌, ◌<◌, ◌^◌, ◌↔◌, Bool, false, zero, suc, if◌then◌else◌, nat_lt, List, [], ◌∷◌, ◌++◌, length, IsTrue, Result, Ok, Err}
 use Rattle.std.specs.List.{flat_map, AllByRecursion}
 use Rattle.std.specs.Int.{Width, byte_len, to_be_bytes, w32}
 use Rattle.dh_base.specs.declared.base_fault.BaseFault.{BaseFault}
@@ -38,6 +38,10 @@ unless_out_of_range is_outside fault taken bytes at = taken bytes at >>= λ read
 abbrev pub next_values : {A F : Type 0} → (List ℕ → ℕ → Result (A × ℕ) F) → ℕ → List ℕ → ℕ → Result (List A × ℕ) F
 next_values taken zero bytes at = Ok ([], at)
 next_values taken (suc n) bytes at = taken bytes at >>= λ first. next_values taken n bytes first.1 >>= λ rest. Ok (first.0 ∷ rest.0, rest.1)
+
+-- the value that all of the bytes are, or a fault at the first byte that is left over
+abbrev pub whole_of : {A F : Type 0} → (ℕ → F) → (List ℕ → ℕ → Result (A × ℕ) F) → List ℕ → Result A F
+whole_of left_over taken bytes = taken bytes 0 >>= λ read. if nat_lt read.1 (length bytes) then Err (left_over read.1) else Ok read.0
 
 -- ---- what stands there
 

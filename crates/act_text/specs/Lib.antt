@@ -1,0 +1,3 @@
+pub mod ActTexts
+pub mod ActReading
+pub mod StatementTexts

@@ -1,0 +1,31 @@
+//! Statements.
+
+ghost use Rattle.std.specs.Prelude.{◌≡◌, ◌++◌, ◌<◌, ◌^◌, length, IfOk, OnOk};
+ghost use Rattle.act_text.specs.StatementTexts.{row_text, statement_text, settled_byte};
+
+use dh_base::{Id, List, Name, NoMemory, Outcome, put_id, put_name, put_u8, put_u16, put_u32, put_u64};
+use std::alloc::Global;
+
+/// An amount of an asset that is held.
+#[derive(Clone, Copy, PartialEq, Eq)]
+pub struct HeldRow {
+    pub asset: Name,
+    pub amount: u64,
+}
+
+/// What a ledger tells of a party of a deal.
+#[derive(Drop)]
+pub struct Statement {
+    pub house: Id,
+    pub ledger: Name,
+    pub deal: Id,
+    pub party: Id,
+    /// How many entries the ledger's history has.
+    pub at: u64,
+    /// How many transfers the party has made in the deal on this ledger.
+    pub moves: u32,
+    /// What the party owns of each asset if the deal commits, in ascending order of the assets.
+    pub rows: List<HeldRow>,
+    /// How the deal was settled here, if it was.
+    pub settled: Option<Outcome>,
+}
