@@ -8,7 +8,7 @@ use Rattle.dh_base.specs.declared.id.Id.{Id}
 use Rattle.dh_base.specs.declared.outcome.Outcome.{Outcome}
 use Rattle.dh_base.specs.declared.outcome.Outcome.TheVariants.{Commit, Abort}
 use Rattle.dh_base.specs.Fields.{◌>>=◌, bytes_at, number_at}
-use Rattle.dh_base.specs.Formats.{next_number, next_id, next_name, next_text, or_fault, unless_out_of_range}
+use Rattle.dh_base.specs.Formats.{next_number, next_id, next_name, next_text, or_fault, unless_out_of_range, whole_of}
 use Rattle.act_text.specs.declared.act.Act.{Act}
 use Rattle.act_text.specs.declared.act.Act.TheVariants.{Register, Pay, Escrow, Transfer, StartDeal, Vote}
 use Rattle.act_text.specs.declared.act_fault.ActFault.{ActFault}
@@ -93,19 +93,23 @@ abbrev pub or_bad_tag : {A : Type 0} → Option A → Result A ActFault
 or_bad_tag (Some x) = Ok x
 or_bad_tag None = Err BadTag
 
--- the kind that the tag and its number name
-unfoldable pub kind_from : Office → List ℕ → Result ActKind ActFault
-kind_from office bytes = do
-  tag ← or_fault (λ _. BadTag) (bytes_at 8 bytes 0)
-  number ← or_fault (λ _. BadTag) (number_at w8 bytes 8)
-  if bytes_eq tag act_tag then or_bad_tag (kind_numbered office number) else Err BadTag
+-- The kind that the tag and its number name, and the place behind them.
+unfoldable pub next_kind : Office → List ℕ → ℕ → Result (ActKind × ℕ) ActFault
+next_kind office bytes at = do
+  tag ← or_fault (λ _. BadTag) (bytes_at 8 bytes at)
+  number ← or_fault (λ _. BadTag) (number_at w8 bytes (at + 8))
+  kind ← or_bad_tag (kind_numbered office number)
+  if bytes_eq tag act_tag then Ok (kind, at + 9) else Err BadTag
+
+-- The act of an office at a place, and the place behind it.
+unfoldable pub act_from : Office → List ℕ → ℕ → Result (Act × ℕ) ActFault
+act_from office bytes at = do
+  kind ← next_kind office bytes at
+  fields_from kind.0 bytes kind.1
 
 -- all of the bytes
-unfoldable pub act_of : Office → List ℕ → Result Act ActFault
-act_of office bytes = do
-  kind ← kind_from office bytes
-  read ← fields_from kind bytes 9
-  if nat_lt read.1 (length bytes) then Err (Trailing read.1) else Ok read.0
+abbrev pub act_of : Office → List ℕ → Result Act ActFault
+act_of office = whole_of Trailing (act_from office)
 
 -- What a call answers is what reading gives, unless memory ran out.
 abbrev pub Gives : {A : Type 0} → Result A ActFault → Result A ActFault → Type 0

@@ -78,6 +78,12 @@ IsName name = IsTrue (is_name name)
 abbrev pub IsAmount : ℕ → Type 0
 IsAmount amount = amount < 2 ^ 63
 
+-- a deal text in it has a length of four bytes
+abbrev pub TextFits : Act → Type 0
+TextFits (Register text) = length text < 2 ^ 32
+TextFits (StartDeal text) = length text < 2 ^ 32
+TextFits act = Unit {0}
+
 -- what has a text
 abbrev pub ActFits : Act → Type 0
 ActFits (Register text) = length text < 2 ^ 32

@@ -6,7 +6,9 @@ use dh_base::{Id, List, Name, Outcome};
 #[derive(Drop)]
 pub enum Act {
     /// Registers the deal of a text on a ledger.
-    Register { text: List<u8> },
+    Register {
+        text: List<u8>,
+    },
     /// Pays another account on a ledger of a house.
     Pay {
         house: Id,
@@ -33,7 +35,9 @@ pub enum Act {
         amount: u64,
     },
     /// Starts the deal of a text in the log.
-    StartDeal { text: List<u8> },
+    StartDeal {
+        text: List<u8>,
+    },
     /// The vote of the party of that index.
     Vote {
         deal: Id,

@@ -20,3 +20,4 @@ pub use act_fault::ActFault;
 pub use office::Office;
 pub use reading::read_act;
 pub use statement::{HeldRow, Statement};
+pub use writing::{write_act, write_statement};

@@ -2,7 +2,7 @@
 
 ghost use Rattle.std.specs.Prelude.{◌≡◌, ◌<◌, ◌≤◌, ◌^◌, length, IfOk, Ok};
 ghost use Rattle.act_text.specs.ActTexts.{ActFits, act_text, kind_of, office_of};
-ghost use Rattle.act_text.specs.ActReading.{Gives, amount_from, choice_byte_from, choice_of, text_from, kind_from, fields_from, act_of};
+ghost use Rattle.act_text.specs.ActReading.{Gives, amount_from, choice_byte_from, text_from, next_kind, fields_from, act_of};
 ghost use Rattle.act_text.specs.declared.act.Act.{Act};
 ghost use Rattle.act_text.specs.declared.act_kind.ActKind.TheVariants.{Registration, Payment, Escrowing, Move, Start, Voting};
 
@@ -10,11 +10,11 @@ use crate::act::Act;
 use crate::act_fault::ActFault;
 use crate::act_kind::ActKind;
 use crate::office::Office;
-use dh_base::{List, Outcome, next_id, next_name, next_text, next_u8, next_u16, next_u32, next_u64, take_u8};
+use crate::writing::ACT_TAG;
+use dh_base::{
+    List, Outcome, next_id, next_name, next_text, next_u8, next_u16, next_u32, next_u64,
+};
 use std::alloc::Global;
-
-/// What the text of an act begins with.
-const TAG: &[u8; 8] = b"CCDACT01";
 
 /// The first place that no amount reaches.
 const AMOUNT_LIMIT: u64 = 1 << 63;
@@ -157,28 +157,28 @@ fn take_fields(alloc: Global, kind: ActKind, bytes: &[u8], at: u32) -> Result<(A
     }
 }
 
-/// The kind that the tag and the number behind it name.
-#[tactic(auto, unfolding(crate::specs::ActReading::kind_from))]
-fn take_kind(office: Office, bytes: &[u8]) -> Result<ActKind, ActFault>
-    ensures { result ≡ kind_from office bytes.now }
+/// The kind that the tag and the number behind it name, and the place behind them.
+#[tactic(auto, unfolding(crate::specs::ActReading::next_kind))]
+fn take_kind(office: Office, bytes: &[u8]) -> Result<(ActKind, u32), ActFault>
+    ensures { result ≡ next_kind office bytes.now 0 }
 {
-    if bytes.len() < 9 || bytes[..8] != TAG[..] {
+    if bytes.len() < 9 || bytes[..8] != ACT_TAG[..] {
         return Err(ActFault::BadTag);
     }
     match ActKind::numbered(office, bytes[8]) {
-        Some(kind) => Ok(kind),
+        Some(kind) => Ok((kind, 9)),
         None => Err(ActFault::BadTag),
     }
 }
 
 /// The act that all of the bytes are.
-#[tactic(auto, unfolding(crate::specs::ActReading::act_of))]
+#[tactic(auto, unfolding(crate::specs::ActReading::act_from))]
 fn take_whole(alloc: Global, office: Office, bytes: &[u8]) -> Result<Act, ActFault>
     requires { length bytes.now < 2 ^ 32 }
     ensures { Gives result (act_of office bytes.now) }
 {
-    let kind = take_kind(office, bytes)?;
-    let (act, next) = take_fields(alloc, kind, bytes, 9)?;
+    let (kind, at) = take_kind(office, bytes)?;
+    let (act, next) = take_fields(alloc, kind, bytes, at)?;
     if (next as usize) < bytes.len() {
         return Err(ActFault::Trailing { at: next });
     }

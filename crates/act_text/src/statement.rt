@@ -1,10 +1,6 @@
 //! Statements.
 
-ghost use Rattle.std.specs.Prelude.{◌≡◌, ◌++◌, ◌<◌, ◌^◌, length, IfOk, OnOk};
-ghost use Rattle.act_text.specs.StatementTexts.{row_text, statement_text, settled_byte};
-
-use dh_base::{Id, List, Name, NoMemory, Outcome, put_id, put_name, put_u8, put_u16, put_u32, put_u64};
-use std::alloc::Global;
+use dh_base::{Id, List, Name, Outcome};
 
 /// An amount of an asset that is held.
 #[derive(Clone, Copy, PartialEq, Eq)]

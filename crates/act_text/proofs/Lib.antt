@@ -1,0 +1,2 @@
+pub mod ActFormats
+pub mod ActTexts
