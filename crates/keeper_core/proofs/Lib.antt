@@ -12,3 +12,5 @@ pub mod Rows
 pub mod Ordered
 pub mod OneListing
 pub mod NumberedOn
+pub mod Leaving
+pub mod OtherTables

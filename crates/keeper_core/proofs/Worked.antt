@@ -35,17 +35,17 @@ other_table : get one_row (3, j) ≡ None
 other_table = get-insert cells_total empty (2, j) (codes "1") (3, j) ∙ get-empty cell_cmp (3, j)
 
 keeper : Option Arm → Bool → KeeperTold
-keeper armed stopped = record { tables = one_row; armed = armed; stopped = stopped; faults = 5 }
+keeper armed stopped = record { tables = one_row; armed = armed; stopped = stopped; faults = 5; looked = 9 }
 
 unarmed_commits : failure_of_commit changes (keeper None false) ≡ None
 unfolding keeper
 unarmed_commits = refl
 
-stops_before : failure_of_commit changes (keeper (Some StopBefore) false) ≡ Some (record { tables = one_row; armed = None; stopped = true; faults = 6 })
+stops_before : failure_of_commit changes (keeper (Some StopBefore) false) ≡ Some (record { tables = one_row; armed = None; stopped = true; faults = 6; looked = 9 })
 unfolding keeper
 stops_before = refl
 
-stops_after : failure_of_commit changes (keeper (Some StopAfter) false) ≡ Some (record { tables = after_batch changes one_row; armed = None; stopped = true; faults = 6 })
+stops_after : failure_of_commit changes (keeper (Some StopAfter) false) ≡ Some (record { tables = after_batch changes one_row; armed = None; stopped = true; faults = 6; looked = 9 })
 unfolding keeper
 stops_after = refl
 

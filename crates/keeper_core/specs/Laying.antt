@@ -13,7 +13,8 @@ bare es = map (λ e. (e.0.items, option_map (λ v. v.items) e.1)) es
 -- the slots of the tables from that number on, each at its cell
 abbrev pub numbered : ℕ → List TableSlots → List (Cell × Slot)
 numbered tab [] = []
-numbered tab (slots ∷ tables) = map (λ e. ((tab, e.0), e.1)) (entries slots) ++ numbered (suc tab) tables
+numbered tab (slots ∷ tables) =
+    map (λ e. ((tab, e.0), e.1)) (entries slots) ++ numbered (suc tab) tables
 
 -- the slot of a key in the table of that number
 abbrev pub slot_in : List TableSlots → ℕ → List ℕ → Option Slot
@@ -23,4 +24,5 @@ slot_in (slots ∷ tables) (suc tab) key = slot_in tables tab key
 
 -- each cell has the same slot in both
 abbrev pub HaveSameSlots : List TableSlots → List TableSlots → Type 0
-HaveSameSlots before after = (tab : ℕ) (key : List ℕ) → slot_in after tab key ≡ slot_in before tab key
+HaveSameSlots before after = (tab : ℕ) (key : List ℕ) →
+    slot_in after tab key ≡ slot_in before tab key

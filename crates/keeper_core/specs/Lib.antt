@@ -11,3 +11,6 @@ pub mod MemoryStore
 pub mod Shelving
 pub mod StoreFaults
 pub mod NumberedRows
+pub mod Knowing
+pub mod Leaving
+pub mod Following

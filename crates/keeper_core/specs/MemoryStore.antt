@@ -21,11 +21,16 @@ pub record StoreTold : Type 0 where
   pub returned : ℕ
 
 abbrev pub calls_code : Coded CallsTold
-calls_code = code_by (List ℕ × (ℕ × ℕ)) (coded× (coded_list coded_ℕ) (coded× coded_ℕ coded_ℕ)) (λ c. (c.fails, (c.made, c.faults))) (λ p. record { fails = p.0; made = p.1.0; faults = p.1.1 }) (λ _. refl)
+calls_code = code_by (List ℕ × (ℕ × ℕ)) (coded× (coded_list coded_ℕ) (coded× coded_ℕ coded_ℕ))
+    (λ c. (c.fails, (c.made, c.faults)))
+    (λ p. record { fails = p.0; made = p.1.0; faults = p.1.1 }) (λ _. refl)
 
 -- a store is stored as the tuple of its fields
 abbrev pub store_code : Coded StoreTold
-store_code = code_by (Maps × (CallsTold × ℕ)) (coded× (code (coded_list coded_ℕ) tables_code) (coded× calls_code coded_ℕ)) (λ s. (s.maps, (s.calls, s.returned))) (λ p. record { maps = p.0; calls = p.1.0; returned = p.1.1 }) (λ _. refl)
+store_code = code_by (Maps × (CallsTold × ℕ))
+    (coded× (code (coded_list coded_ℕ) tables_code) (coded× calls_code coded_ℕ))
+    (λ s. (s.maps, (s.calls, s.returned)))
+    (λ p. record { maps = p.0; calls = p.1.0; returned = p.1.1 }) (λ _. refl)
 
 -- the map of a name, empty where nothing came back under it
 abbrev pub map_in : Maps → List ℕ → Tables
@@ -44,3 +49,7 @@ with_room_for maps name = if contains_key maps name then maps else insert maps n
 -- the maps with this one under the name, if there is room for it
 abbrev pub with_map : Maps → List ℕ → Tables → Maps
 with_map maps name tables = if contains_key maps name then insert maps name tables else maps
+
+-- the maps once the keeper of this name is out: there is room for its map, which is empty
+abbrev pub with_map_out : Maps → List ℕ → Maps
+with_map_out maps name = with_map (with_room_for maps name) name empty

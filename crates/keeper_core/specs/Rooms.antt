@@ -17,4 +17,5 @@ HaveRoom slots changes = AllByRecursion (HasRoom slots) changes
 
 -- whatever has a slot keeps one
 abbrev pub KeepsSlots : Slots → Slots → Type 0
-KeepsSlots before after = (cell : Cell) → contains_key before cell ≡ true → contains_key after cell ≡ true
+KeepsSlots before after = (cell : Cell) → contains_key before cell ≡ true →
+    contains_key after cell ≡ true

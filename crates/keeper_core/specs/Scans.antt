@@ -10,8 +10,10 @@ use Rattle.keeper_core.specs.Tables.{Tables, rows_of}
 
 -- Each key is before those behind it, by its bytes.
 abbrev pub ScansAscend : Type 0
-ScansAscend = (tab : ℕ) (tables : Tables) → IsStrictlySortedBy (slice_cmp nat_cmp) (map (λ row. row.key) (rows_of tab tables))
+ScansAscend = (tab : ℕ) (tables : Tables) →
+    IsStrictlySortedBy (slice_cmp nat_cmp) (map (λ row. row.key) (rows_of tab tables))
 
 -- A row is listed exactly where the map has its bytes at its key.
 abbrev pub ScansListTheMap : Type 0
-ScansListTheMap = (tab : ℕ) (row : Row) (tables : Tables) → Contains (rows_of tab tables) row ↔ (get tables (tab, row.key) ≡ Some row.val)
+ScansListTheMap = (tab : ℕ) (row : Row) (tables : Tables) →
+    Contains (rows_of tab tables) row ↔ (get tables (tab, row.key) ≡ Some row.val)

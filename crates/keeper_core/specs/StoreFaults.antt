@@ -4,7 +4,6 @@ use Rattle.std.specs.FinMap.{get}
 use Rattle.std.proofs.Common.{lit≤}
 use Rattle.sha2.specs.Sha256.{sha256}
 use Rattle.dh_base.specs.Refusals.{Told}
-use Rattle.dh_base.specs.Faults.{HasRisen}
 use Rattle.dh_base.specs.declared.id.Id.{Id}
 use Rattle.dh_base.specs.declared.refusal.FieldValue.TheVariants.{Number, Hash}
 use Rattle.keeper_core.specs.declared.store_fault.StoreFault.{StoreFault}
@@ -35,12 +34,12 @@ pub record IsBadRow (LacksForm : Row → Type 0) (told : Option Tables) (tab : �
   pub lacks : LacksForm row
   pub stands : IfSome told (λ tables. get tables (tab, row.key) ≡ Some row.val)
 
--- Why a call over a keeper answers a fault: the keeper's count rose in that call, or the row that is named lacks the form
--- of its table's rows. Want of memory has no cause here.
-abbrev pub HasCause : (ℕ → Row → Type 0) → Option Tables → ℕ → ℕ → StoreFault → Type 0
-HasCause LacksForm told before after Keeper = HasRisen before after
-HasCause LacksForm told before after (BadRow tab key) = IsBadRow (LacksForm tab) told tab key
-HasCause LacksForm told before after NoMemory = Unit {0}
+-- Why a call over a keeper answers a fault: the row that is named lacks the form of its table's rows. That the count rose
+-- where the keeper failed is said by what the call leaves of the keeper. Want of memory has no cause.
+abbrev pub HasCause : (ℕ → Row → Type 0) → Option Tables → StoreFault → Type 0
+HasCause LacksForm told Keeper = Unit {0}
+HasCause LacksForm told (BadRow tab key) = IsBadRow (LacksForm tab) told tab key
+HasCause LacksForm told NoMemory = Unit {0}
 
 -- the fault of a keeper's call, handed on
 abbrev pub store_fault_of : KeepFault → StoreFault

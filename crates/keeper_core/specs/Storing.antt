@@ -1,6 +1,11 @@
 -- What a call leaves of the maps of a store.
 use Rattle.std.specs.Prelude.{◌≡◌, ℕ, ◌+◌, ◌-◌, ◌^◌, min, List, Option, Some, IfSome}
+use Rattle.std.specs.FinMap.{empty}
 use Rattle.keeper_core.specs.Tables.{Tables}
+
+-- Where it is told, the map is empty: its keeper is out.
+abbrev pub IsOut : Option Tables → Type 0
+IsOut told = IfSome told (λ tables. tables ≡ empty)
 
 -- the one map is handed on as the other
 abbrev pub Hands : Option Tables → Option Tables → Type 0

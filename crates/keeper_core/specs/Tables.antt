@@ -24,4 +24,5 @@ tables_code = code (coded× coded_ℕ (coded_list coded_ℕ)) (coded_list coded_
 
 -- the rows of a table, in ascending order of their keys
 abbrev pub rows_of : ℕ → Tables → List Row
-rows_of tab tables = map (λ e. record { key = e.0.1; val = e.1 }) (filter (λ e. e.0.0 == tab) (entries tables))
+rows_of tab tables = map (λ e. record { key = e.0.1; val = e.1 })
+    (filter (λ e. e.0.0 == tab) (entries tables))

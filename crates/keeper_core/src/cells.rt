@@ -115,7 +115,8 @@ impl Cells {
     /// Fills the slot of a key, or empties it.
     pub fn set(&mut self, tab: u8, key: &[u8], val: Option<Vec<u8>>)
         requires { IsTrue (finite.contains_key self.old (tab, key.now)) }
-        ensures { self.new ≡ finite.insert self.old (tab, key.now) (option_map (λ bytes. bytes.items) val) }
+        ensures { self.new ≡ finite.insert self.old (tab, key.now)
+            (option_map (λ bytes. bytes.items) val) }
     {
         let table = &mut self.tables[usize::from(tab)];
         table.set(key, val);
@@ -133,7 +134,8 @@ impl Cells {
 
     /// Takes the slot of a key away, if it is empty.
     pub fn prune(&mut self, tab: u8, key: &[u8])
-        ensures { (cell : Cell) → held (finite.get self.new cell) ≡ held (finite.get self.old cell) }
+        ensures { (cell : Cell)
+            → held (finite.get self.new cell) ≡ held (finite.get self.old cell) }
     {
         let place = usize::from(tab);
         if place < self.tables.len() {

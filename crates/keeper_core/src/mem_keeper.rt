@@ -1,14 +1,15 @@
 //! A keeper in memory.
 
-ghost use Rattle.std.specs.Prelude.{◌≡◌, ◌↔◌, ◌≤◌, ◌⊎◌, Some, None, true, false, Ok, IfOk, OnOk, OnErr, IsErr, IsTrue, if◌then◌else◌};
+ghost use Rattle.std.specs.Prelude.{◌≡◌, ◌↔◌, ◌+◌, [], ◌∷◌, Some, None, true, false, Ok, IfOk, OnOk, OnErr, IsErr, IsTrue, if◌then◌else◌};
 ghost use Rattle.std.specs.Option.{option_copied};
 ghost use Rattle.std.specs.Result.{IsErrOf};
 ghost use Rattle.std.specs.FinMap as finite;
-ghost use Rattle.dh_base.specs.Faults.{HasRisen};
 ghost use Rattle.keeper_core.specs.Batches.{after_batch};
-ghost use Rattle.keeper_core.specs.Keeping.{AnswersByMap, ListsTable, Applies, AppliesNoneOrAll};
+ghost use Rattle.keeper_core.specs.Knowing.{FailsNext, FailsCommit, LooksAtMost};
+ghost use Rattle.keeper_core.specs.Keeping.{AnswersByMap, ListsTable, rows_given};
+ghost use Rattle.keeper_core.specs.Leaving.{Leaves, ended, of_keep_fault};
 ghost use Rattle.keeper_core.specs.Slots.{filled};
-ghost use Rattle.keeper_core.specs.Memory.{fails_next, after_failure, after_reading, stopped_with, failure_of_commit, after_commit};
+ghost use Rattle.keeper_core.specs.Memory.{known_of, fails_next, after_begin, after_looks, after_failure, after_reading, stopped_with, failure_of_commit, after_commit};
 
 use crate::arm::Arm;
 use crate::batch::Batch;
@@ -27,6 +28,7 @@ pub struct MemKeeper {
     armed: Option<Arm>,
     stopped: bool,
     faults: u64,
+    looked: u64,
 }
 
 impl Model for MemKeeper {
@@ -38,26 +40,45 @@ impl Model for MemKeeper {
 
     ghost use Rattle.keeper_core.specs.Slots.{filled};
 
-    ghost view = { λ k. record { tables = filled k.cells; armed = k.armed; stopped = k.stopped; faults = k.faults } };
+    ghost view = { λ k. record {
+      tables = filled k.cells;
+      armed = k.armed;
+      stopped = k.stopped;
+      faults = k.faults;
+      looked = k.looked;
+    } };
 }
 
 impl MemKeeper {
     /// A keeper of no rows, which runs and is not armed.
     pub fn new(alloc: Global) -> MemKeeper
-        ensures { result ≡ record { tables = finite.empty; armed = None; stopped = false; faults = 0 } }
+        ensures { result ≡ record {
+          tables = finite.empty;
+          armed = None;
+          stopped = false;
+          faults = 0;
+          looked = 0;
+        } }
     {
         MemKeeper::over(Cells::new(alloc))
     }
 
     /// The keeper of the rows in these slots, which runs and is not armed.
     pub(crate) fn over(cells: Cells) -> MemKeeper
-        ensures { result ≡ record { tables = filled cells; armed = None; stopped = false; faults = 0 } }
+        ensures { result ≡ record {
+          tables = filled cells;
+          armed = None;
+          stopped = false;
+          faults = 0;
+          looked = 0;
+        } }
     {
         MemKeeper {
             cells,
             armed: None,
             stopped: false,
             faults: 0,
+            looked: 0,
         }
     }
 
@@ -70,6 +91,7 @@ impl MemKeeper {
             armed: _,
             stopped: _,
             faults: _,
+            looked: _,
         } = self;
         cells
     }
@@ -110,10 +132,17 @@ impl MemKeeper {
         self.faults
     }
 
+    /// How many rows were looked up.
+    pub fn looked(&self) -> u64
+        ensures { result ≡ self.now.looked }
+    {
+        self.looked
+    }
+
     /// Lets a call begin, or fails it.
     fn begin(&mut self) -> Result<(), Failed>
         ensures fails { IsErr result ↔ IsTrue (fails_next self.old) }
-        ensures after { self.new ≡ after_reading self.old }
+        ensures after { self.new ≡ after_begin self.old }
     {
         let fails = matches!(self.armed, Some(Arm::FailNext));
         if fails {
@@ -124,6 +153,14 @@ impl MemKeeper {
             return Err(Failed);
         }
         Ok(())
+    }
+
+    /// Counts rows that are looked up.
+    fn look(&mut self, rows: u64)
+        ensures after { self.new ≡ after_looks rows self.old }
+        ensures looked { LooksAtMost rows (known_of self.old) (known_of self.new) }
+    {
+        self.looked = self.looked.saturating_add(rows);
     }
 
     /// Stops the keeper as it is.
@@ -147,58 +184,49 @@ impl MemKeeper {
 }
 
 impl Keeper for MemKeeper {
-    ghost tables = { λ k. Some k.tables };
-
-    ghost stopped = { λ k. k.stopped };
-
-    ghost faults = { λ k. k.faults };
+    ghost known = { known_of };
 
     fn get(&mut self, tab: u8, key: &[u8]) -> Result<Option<List<u8>>, KeepFault>
-        ensures answers { IfOk result (AnswersByMap (Some self.old.tables) tab key.now) }
-        ensures failed { IsErrOf result KeepFault.Failed → HasRisen self.old.faults self.new.faults }
-        ensures quiet { OnOk result (self.new.faults ≡ self.old.faults) }
-        ensures unchanged { Some self.new.tables ≡ Some self.old.tables }
-        ensures same_stop { self.new.stopped ≡ self.old.stopped }
-        ensures stopped { IsTrue self.old.stopped → IsErrOf result KeepFault.Failed }
-        ensures count { self.old.faults ≤ self.new.faults }
+        ensures answers { IfOk result (AnswersByMap (Some self.new.tables) tab key.now) }
+        ensures leaves { Leaves [] (ended of_keep_fault result)
+            (known_of self.old) (known_of self.new) }
+        ensures fails { FailsNext (known_of self.old) → IsErrOf result KeepFault.Failed }
+        ensures looked { LooksAtMost 1 (known_of self.old) (known_of self.new) }
         ensures told { IsErrOf result KeepFault.Failed ↔ IsTrue (fails_next self.old) }
-        ensures after { self.new ≡ after_reading self.old }
+        ensures after { self.new ≡ after_reading 1 self.old }
     {
         self.begin()?;
+        self.look(1);
         Ok(self.cells.read(tab, key)?)
     }
 
     fn scan(&mut self, tab: u8) -> Result<List<Row>, KeepFault>
-        ensures lists { IfOk result (ListsTable (Some self.old.tables) tab) }
-        ensures failed { IsErrOf result KeepFault.Failed → HasRisen self.old.faults self.new.faults }
-        ensures quiet { OnOk result (self.new.faults ≡ self.old.faults) }
-        ensures unchanged { Some self.new.tables ≡ Some self.old.tables }
-        ensures same_stop { self.new.stopped ≡ self.old.stopped }
-        ensures stopped { IsTrue self.old.stopped → IsErrOf result KeepFault.Failed }
-        ensures count { self.old.faults ≤ self.new.faults }
+        ensures lists { IfOk result (ListsTable (Some self.new.tables) tab) }
+        ensures leaves { Leaves [] (ended of_keep_fault result)
+            (known_of self.old) (known_of self.new) }
+        ensures fails { FailsNext (known_of self.old) → IsErrOf result KeepFault.Failed }
+        ensures looked { LooksAtMost (1 + rows_given result)
+            (known_of self.old) (known_of self.new) }
         ensures told { IsErrOf result KeepFault.Failed ↔ IsTrue (fails_next self.old) }
-        ensures after { self.new ≡ after_reading self.old }
+        ensures after { self.new ≡ after_reading (1 + rows_given result) self.old }
     {
         self.begin()?;
+        self.look(1);
         let rows = self.cells.rows(tab)?;
+        self.look(rows.len() as u64);
         Ok(List::from_vec(rows))
     }
 
     /// Where memory is refused, a stop for which the keeper is armed is still to come.
     fn commit(&mut self, batch: &Batch) -> Result<(), KeepFault>
-        ensures applies { OnOk result (Applies (Some self.old.tables) batch.now (Some self.new.tables)) }
-        ensures none_or_all { OnErr result (AppliesNoneOrAll (Some self.old.tables) batch.now (Some self.new.tables)) }
-        ensures unchanged { OnErr result (self.new.stopped ≡ self.old.stopped
-            → Some self.new.tables ≡ Some self.old.tables) }
-        ensures failed { IsErrOf result KeepFault.Failed → HasRisen self.old.faults self.new.faults }
-        ensures quiet { OnOk result (self.new.faults ≡ self.old.faults) }
-        ensures same_stop { IsErrOf result KeepFault.Failed ⊎ (self.new.stopped ≡ self.old.stopped) }
-        ensures stopped { IsTrue self.old.stopped
-            → IsErrOf result KeepFault.Failed × IsTrue self.new.stopped }
-        ensures count { self.old.faults ≤ self.new.faults }
+        ensures leaves { Leaves (batch.now ∷ []) (ended of_keep_fault result)
+            (known_of self.old) (known_of self.new) }
+        ensures fails { FailsCommit (known_of self.old) → IsErrOf result KeepFault.Failed }
+        ensures looked { self.new.looked ≡ self.old.looked }
         ensures told { OnOk result (failure_of_commit batch.now self.old ≡ None) }
         ensures ok { OnOk result (self.new ≡ after_commit batch.now self.old) }
-        ensures fails { IsErrOf result KeepFault.Failed → failure_of_commit batch.now self.old ≡ Some self.new }
+        ensures fault { IsErrOf result KeepFault.Failed
+            → failure_of_commit batch.now self.old ≡ Some self.new }
         ensures no_memory { IsErrOf result KeepFault.NoMemory → self.new ≡ self.old }
     {
         self.begin()?;

@@ -6,8 +6,11 @@ ghost use Rattle.std.specs.FinMap as finite;
 ghost use Rattle.dh_base.specs.Faults.{HasRisen};
 ghost use Rattle.dh_base.specs.Calls.{fails_next, after_call};
 ghost use Rattle.keeper_core.specs.Slots.{filled};
+ghost use Rattle.keeper_core.specs.Knowing.{IsFresh};
+ghost use Rattle.keeper_core.specs.Leaving.{KeepsTold};
+ghost use Rattle.keeper_core.specs.Memory.{known_of};
 ghost use Rattle.keeper_core.specs.Storing.{Hands, LeavesOthers, LeavesAll, KeepsRoom, total_faults};
-ghost use Rattle.keeper_core.specs.MemoryStore.{map_in, has_room_in, faults_of, with_room_for, with_map};
+ghost use Rattle.keeper_core.specs.MemoryStore.{map_in, has_room_in, faults_of, with_room_for, with_map, with_map_out};
 
 use crate::cells::Cells;
 use crate::keep_fault::KeepFault;
@@ -39,14 +42,22 @@ impl Model for MemStore {
 
     ghost use Rattle.keeper_core.specs.Shelving.{shelved};
 
-    ghost view = { λ s. record { maps = finite.from_entries (shelved s.maps.entries); calls = s.calls; returned = s.returned } };
+    ghost view = { λ s. record {
+      maps = finite.from_entries (shelved s.maps.entries);
+      calls = s.calls;
+      returned = s.returned;
+    } };
 }
 
 impl MemStore {
     /// A store whose maps are empty, of which the calls of `keep` with the numbers `fails`, from 0, are to
     /// fail.
     pub fn new(alloc: Global, fails: List<u32>) -> MemStore
-        ensures { result ≡ record { maps = finite.empty; calls = record { fails = fails; made = 0; faults = 0 }; returned = 0 } }
+        ensures { result ≡ record {
+          maps = finite.empty;
+          calls = record { fails = fails; made = 0; faults = 0 };
+          returned = 0;
+        } }
     {
         MemStore {
             alloc,
@@ -65,7 +76,8 @@ impl MemStore {
 
     /// Makes room for the map of a name.
     fn make_room(&mut self, name: &str) -> Result<(), NoMemory>
-        ensures ok { OnOk result (self.new ≡ record self.old { maps = with_room_for self.old.maps name.now }) }
+        ensures ok { OnOk result
+            (self.new ≡ record self.old { maps = with_room_for self.old.maps name.now }) }
         ensures err { OnErr result (self.new ≡ self.old) }
     {
         if !self.maps.contains_key(name) {
@@ -77,8 +89,11 @@ impl MemStore {
 
     /// Puts a map in the place of that of a name, and gives that one, or the same where there is no room.
     fn replace(&mut self, name: &str, cells: Cells) -> Cells
-        ensures maps { self.new ≡ record self.old { maps = with_map self.old.maps name.now (filled cells) } }
-        ensures given { finite.contains_key self.old.maps name.now ≡ true → filled result ≡ map_in self.old.maps name.now }
+        ensures maps { self.new ≡ record self.old {
+          maps = with_map self.old.maps name.now (filled cells);
+        } }
+        ensures given { finite.contains_key self.old.maps name.now ≡ true
+            → filled result ≡ map_in self.old.maps name.now }
     {
         match self.maps.get_mut(name) {
             Some(kept) => mem::replace(kept, cells),
@@ -97,17 +112,22 @@ impl Store for MemStore {
     ghost faults = { λ s. faults_of s };
 
     fn keep(&mut self, name: &str) -> Result<MemKeeper, KeepFault>
-        ensures gives { IfOk result (λ keeper. Hands (Some (map_in self.old.maps name.now)) (Some keeper.tables)) }
-        ensures fresh { IfOk result (λ keeper. keeper.faults ≡ 0) }
-        ensures running { IfOk result (λ keeper. keeper.stopped ≡ false) }
-        ensures unarmed { IfOk result (λ keeper. keeper.armed ≡ None) }
+        ensures gives { IfOk result (λ keeper. Hands (Some (map_in self.old.maps name.now))
+            (Some keeper.tables)) }
+        ensures fresh { IfOk result (λ keeper. IsFresh (known_of keeper)) }
+        ensures taken { OnOk result (map_in self.new.maps name.now ≡ finite.empty) }
         ensures room { OnOk result (has_room_in self.new.maps name.now) }
         ensures rooms { KeepsRoom (has_room_in self.old.maps) (has_room_in self.new.maps) }
-        ensures others { LeavesOthers name.now (λ n. Some (map_in self.old.maps n)) (λ n. Some (map_in self.new.maps n)) }
-        ensures unchanged { OnErr result (LeavesAll (λ n. Some (map_in self.old.maps n)) (λ n. Some (map_in self.new.maps n))) }
-        ensures failed { IsErrOf result KeepFault.Failed → HasRisen (faults_of self.old) (faults_of self.new) }
+        ensures others { LeavesOthers name.now (λ n. Some (map_in self.old.maps n))
+            (λ n. Some (map_in self.new.maps n)) }
+        ensures unchanged { OnErr result (LeavesAll (λ n. Some (map_in self.old.maps n))
+            (λ n. Some (map_in self.new.maps n))) }
+        ensures quiet { OnOk result (faults_of self.new ≡ faults_of self.old) }
+        ensures failed { IsErrOf result KeepFault.Failed
+            → HasRisen (faults_of self.old) (faults_of self.new) }
         ensures count { faults_of self.old ≤ faults_of self.new }
-        ensures taken { OnOk result (map_in self.new.maps name.now ≡ finite.empty) }
+        ensures maps { OnOk result (self.new.maps ≡ with_map_out self.old.maps name.now) }
+        ensures same_maps { OnErr result (self.new.maps ≡ self.old.maps) }
         ensures told { IsErrOf result KeepFault.Failed ↔ IsTrue (fails_next self.old.calls) }
         ensures calls { self.new.calls ≡ after_call self.old.calls }
         ensures returned { self.new.returned ≡ self.old.returned }
@@ -119,9 +139,11 @@ impl Store for MemStore {
     }
 
     fn back(&mut self, name: &str, keep: MemKeeper)
-        ensures own { has_room_in self.old.maps name.now → Hands (Some keep.tables) (Some (map_in self.new.maps name.now)) }
+        ensures own { has_room_in self.old.maps name.now
+            → KeepsTold (Some keep.tables) (Some (map_in self.new.maps name.now)) }
         ensures rooms { KeepsRoom (has_room_in self.old.maps) (has_room_in self.new.maps) }
-        ensures others { LeavesOthers name.now (λ n. Some (map_in self.old.maps n)) (λ n. Some (map_in self.new.maps n)) }
+        ensures others { LeavesOthers name.now (λ n. Some (map_in self.old.maps n))
+            (λ n. Some (map_in self.new.maps n)) }
         ensures count { faults_of self.new ≡ total_faults (faults_of self.old) keep.faults }
         ensures maps { self.new.maps ≡ with_map self.old.maps name.now keep.tables }
         ensures calls { self.new.calls ≡ self.old.calls }

@@ -66,7 +66,8 @@ impl Table {
     /// Fills a key's slot, or empties it.
     pub fn set(&mut self, key: &[u8], val: Option<Vec<u8>>)
         requires { IsTrue (finite.contains_key self.old key.now) }
-        ensures { self.new ≡ finite.insert self.old key.now (option_map (λ bytes. bytes.items) val) }
+        ensures { self.new ≡ finite.insert self.old key.now
+            (option_map (λ bytes. bytes.items) val) }
     {
         if let Some(slot) = self.slots.get_mut(key) {
             *slot = val;

@@ -1,5 +1,7 @@
 //! Small maps, worked out by hand.
 
+mod callers;
+
 use super::*;
 use dh_base::{Id, List, NoMemory, Refusal};
 use std::alloc::Global;

@@ -38,15 +38,15 @@ listed_stands None tab rows before behind row lists parted = tt
 listed_stands (Some tables) tab rows before behind row lists parted =
     (scans_list_the_map tab row tables).0 (subst (λ (rs : List Row). Contains rs row) (sym parted ∙ lists) (Contains-append_right before (row ∷ behind) row (here row behind)))
 
-pub row_cause : (size : ℕ) (told : Option Tables) (rows : List Row) (before after : ℕ) (fault : StoreFault) → ListsTable told used_tab rows → IsRowFault size rows fault → HasCause (LacksForm size told) told before after fault
-row_cause size told rows before after Keeper lists amiss = absurd amiss
-row_cause size told rows before after (BadRow tab digest) lists (is_tab, row, named, first) = record {
+pub row_cause : (size : ℕ) (told : Option Tables) (rows : List Row) (fault : StoreFault) → ListsTable told used_tab rows → IsRowFault size rows fault → HasCause (LacksForm size told) told fault
+row_cause size told rows Keeper lists amiss = absurd amiss
+row_cause size told rows (BadRow tab digest) lists (is_tab, row, named, first) = record {
   row = row;
   named = named;
   lacks = (is_tab, rows, lists, first);
   stands = subst (λ (t : ℕ). IfSome told (λ tables. get tables (t, row.key) ≡ Some row.val)) (sym is_tab) (listed_stands told used_tab rows (numbered_rows w32 0 first.texts) first.behind row lists first.parted);
 }
-row_cause size told rows before after NoMemory lists amiss = tt
+row_cause size told rows NoMemory lists amiss = tt
 
 -- what holds of a fault holds of the answer that hands it on
 pub handed_on : {A : Type 0} (P : StoreFault → Type 0) (answer : Result A StoreFault) (fault : StoreFault) → IsErrAnd answer (λ given. given ≡ fault) → P fault → IfErr answer P

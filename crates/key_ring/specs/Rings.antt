@@ -44,4 +44,5 @@ ring_size_of text =
     else Ok (said_keys text)
 
 abbrev pub ring_of : List ℕ → Result Ring ℕ
-ring_of text = ring_size_of text >>= λ size. Ok (record { ident = take 16 (drop 8 text); keys = elements_of size (drop 26 text) })
+ring_of text = ring_size_of text >>= λ size. Ok
+    (record { ident = take 16 (drop 8 text); keys = elements_of size (drop 26 text) })

@@ -13,7 +13,8 @@ pub record HasRing (env : Envelope) : Type 0 where
 
 -- the signature is valid under the key of the envelope's number
 abbrev pub IsSignedBy : Ring → Envelope → Type 0
-IsSignedBy ring env = IsOtsValid ring.ident env.q (slice_index_or ring.keys env.q []) env.message env.sig
+IsSignedBy ring env = IsOtsValid ring.ident env.q
+    (slice_index_or ring.keys env.q []) env.message env.sig
 
 -- The envelope says the message under that key of that account.
 pub record Says (env : Envelope) (account : List ℕ) (q : ℕ) (message : List ℕ) : Type 0 where

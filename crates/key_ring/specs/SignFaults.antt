@@ -1,11 +1,11 @@
 -- What the refusals of a signer tell, and when they come.
 use Rattle.std.specs.Prelude.{ℕ, List, [], ◌∷◌, ◌++◌, codes, length, ◌≤◌}
 use Rattle.std.proofs.Common.{lit≤}
-use Rattle.dh_base.specs.Faults.{HasRisen}
 use Rattle.dh_base.specs.Refusals.{Told, told_text}
 use Rattle.dh_base.specs.declared.refusal.FieldValue.TheVariants.{Number}
 use Rattle.keeper_core.specs.declared.store_fault.StoreFault.TheVariants.{Keeper, BadRow, NoMemory}
 use Rattle.keeper_core.specs.StoreFaults.{store_fault_told}
+use Rattle.keeper_core.specs.Leaving.{Ended, refused, of_store_fault}
 use Rattle.key_ring.specs.Signers.{SignerTold, IsSpent}
 use Rattle.key_ring.specs.declared.sign_fault.SignFault.{SignFault}
 use Rattle.key_ring.specs.declared.sign_fault.SignFault.TheVariants.{KeysSpent, Store}
@@ -25,14 +25,19 @@ pub few_sign_fields : (fault : SignFault) → length (sign_fault_told fault).fie
 few_sign_fields (KeysSpent used size) = lit≤ tt
 few_sign_fields (Store fault) = lit≤ tt
 
--- Why a text is not kept: the keeper's count rose in that call, or memory ran out, which has no cause here.
-abbrev pub IsStoreFault : (before after : ℕ) → SignFault → Type 0
-IsStoreFault before after (KeysSpent used size) = ⊥
-IsStoreFault before after (Store Keeper) = HasRisen before after
-IsStoreFault before after (Store (BadRow tab key)) = ⊥
-IsStoreFault before after (Store NoMemory) = Unit {0}
+-- how the call ended
+abbrev pub of_sign_fault : SignFault → Ended
+of_sign_fault (KeysSpent used size) = refused
+of_sign_fault (Store fault) = of_store_fault fault
+
+-- A text is not kept because the keeper failed, or for want of memory.
+abbrev pub IsStoreFault : SignFault → Type 0
+IsStoreFault (KeysSpent used size) = ⊥
+IsStoreFault (Store Keeper) = Unit {0}
+IsStoreFault (Store (BadRow tab key)) = ⊥
+IsStoreFault (Store NoMemory) = Unit {0}
 
 -- Why a text is refused: too few keys are left, or it is not kept.
-abbrev pub IsRefusedFor : SignerTold → List ℕ → ℕ → (before after : ℕ) → SignFault → Type 0
-IsRefusedFor signer text reserve before after (KeysSpent used size) = IsSpent signer text reserve used size
-IsRefusedFor signer text reserve before after (Store fault) = IsStoreFault before after (Store fault)
+abbrev pub IsRefusedFor : SignerTold → List ℕ → ℕ → SignFault → Type 0
+IsRefusedFor signer text reserve (KeysSpent used size) = IsSpent signer text reserve used size
+IsRefusedFor signer text reserve (Store fault) = IsStoreFault (Store fault)

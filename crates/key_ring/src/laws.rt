@@ -26,7 +26,9 @@ pub fn rings_read()
 /// A text behind its length is taken at a place exactly where it stands there, and has at most that many bytes.
 pub fn texts_taken()
     ensures { (most : ℕ) (bytes text : List ℕ) (at next : ℕ) → AreBytes bytes → most < 2 ^ 32 →
-        (text_at most bytes at ≡ Ok (text, next)) ↔ ((length text ≤ most) × StandsAt (text_field text) bytes at × (next ≡ at + length (text_field text))) }
+        (text_at most bytes at ≡ Ok (text, next))
+        ↔ ((length text ≤ most) × StandsAt (text_field text) bytes at
+        × (next ≡ at + length (text_field text))) }
 {}
 
 /// A signature is taken at a place exactly where it stands there.
@@ -49,20 +51,25 @@ pub fn envelopes_read()
 
 /// The envelope in which a key of a ring signs a message says that message under the ring's account.
 pub fn made_says()
-    ensures { (seed ident message : List ℕ) (size q : ℕ) → length ident ≡ 16 → size ≤ 64 → q < size →
+    ensures { (seed ident message : List ℕ) (size q : ℕ) → length ident ≡ 16 → size ≤ 64
+        → q < size →
         Says (envelope_made seed ident size q message) (sha256 (ring_text (ring_made seed ident size))) q message }
 {}
 
 /// A text that is signed belongs to its key from then on, whatever is signed later.
 pub fn same_key_again()
-    ensures signed { (signer : SignerTold) (text : List ℕ) → key_of (after_signing signer text) text ≡ Some (key_for signer text) }
-    ensures stays { (signer : SignerTold) (text : List ℕ) (q : ℕ) (more : List (List ℕ)) → key_of signer text ≡ Some q →
+    ensures signed { (signer : SignerTold) (text : List ℕ)
+        → key_of (after_signing signer text) text ≡ Some (key_for signer text) }
+    ensures stays { (signer : SignerTold) (text : List ℕ) (q : ℕ) (more : List (List ℕ))
+        → key_of signer text ≡ Some q →
         key_of (record signer { texts = signer.texts ++ more }) text ≡ Some q }
 {}
 
 /// The rows that stand for a signer's texts are loaded as these texts: they stand for no others, and none of them is amiss.
 pub fn loaded_again()
-    ensures texts { (tables : Tables) (texts others : List (List ℕ)) → StandsFor tables texts → StandsFor tables others → texts ≡ others }
-    ensures rows { (tables : Tables) (texts : List (List ℕ)) (size : ℕ) (row : Row) → StandsFor tables texts → length texts ≤ size →
+    ensures texts { (tables : Tables) (texts others : List (List ℕ)) → StandsFor tables texts
+        → StandsFor tables others → texts ≡ others }
+    ensures rows { (tables : Tables) (texts : List (List ℕ)) (size : ℕ) (row : Row)
+        → StandsFor tables texts → length texts ≤ size →
         ¬ (LacksForm size (Some tables) used_tab row) }
 {}

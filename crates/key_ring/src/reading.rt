@@ -109,7 +109,8 @@ pub fn read_envelope(alloc: Global, bytes: &[u8]) -> Result<Envelope, EnvFault>
     // What is read is spelled so.
     ensures found { IfOk result (λ env. IsWithinLimits env × (bytes.now ≡ envelope_text env)) }
     // What is spelled so is read, unless memory runs out.
-    ensures only { (env : Envelope) → IsWithinLimits env → bytes.now ≡ envelope_text env → Gives result (Ok env) }
+    ensures only { (env : Envelope) → IsWithinLimits env → bytes.now ≡ envelope_text env
+        → Gives result (Ok env) }
     // Which field is the first at fault.
     ensures exact { Gives result (envelope_of bytes.now) }
 {

@@ -25,7 +25,8 @@ const MOST_KEYS: u16 = 64;
 
 /// The text of the ring of a seed.
 pub fn make_ring(alloc: Global, spec: &KeySpec) -> Result<List<u8>, NoMemory>
-    ensures text { IfOk result (λ ring. ring ≡ ring_text (ring_made spec.now.seed spec.now.ident spec.now.size)) }
+    ensures text { IfOk result (λ ring. ring ≡ ring_text
+        (ring_made spec.now.seed spec.now.ident spec.now.size)) }
     ensures len { IfOk result (λ ring. length ring ≡ 26 + 32 * spec.now.size) }
 {
     let mut ring = Vec::with_capacity(alloc, KEYS_PLACE + 32 * spec.size as usize)?;

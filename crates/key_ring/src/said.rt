@@ -50,9 +50,12 @@ fn answer(env: &Envelope) -> Result<Said, EnvFault>
 /// The account and the key number under which the envelope says its message. Every reader of acts,
 /// statements and claims asks it before it looks at a message.
 pub fn check(env: &Envelope) -> Result<Said, EnvFault>
-    ensures says { (said : Said) → (result ≡ Ok said) ↔ Says env.now said.account.0 said.q env.now.message }
-    ensures bad_ring { (at : ℕ) → (result ≡ Err (EnvFault.BadRing at)) ↔ (ring_of env.now.ring ≡ Err at) }
-    ensures key_outside { (q n : ℕ) → (result ≡ Err (EnvFault.KeyOutside q n)) ↔ IsKeyOutside env.now q n }
+    ensures says { (said : Said) → (result ≡ Ok said)
+        ↔ Says env.now said.account.0 said.q env.now.message }
+    ensures bad_ring { (at : ℕ) → (result ≡ Err (EnvFault.BadRing at))
+        ↔ (ring_of env.now.ring ≡ Err at) }
+    ensures key_outside { (q n : ℕ) → (result ≡ Err (EnvFault.KeyOutside q n))
+        ↔ IsKeyOutside env.now q n }
     ensures bad_signature { (result ≡ Err EnvFault.BadSignature) ↔ IsBadlySigned env.now }
 {
     answer(env)

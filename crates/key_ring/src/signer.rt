@@ -1,14 +1,16 @@
 //! Signers.
 
-ghost use Rattle.std.specs.Prelude.{◌≡◌, ◌↔◌, ◌≤◌, ◌<◌, ◌+◌, ◌⊎◌, ℕ, [], ◌∷◌, length, slice_get, None, Err, MatchResult, IsErr, IfOk, IfErr, IfSome, OnOk, OnErr, IsTrue};
+ghost use Rattle.std.specs.Prelude.{◌≡◌, ◌↔◌, ◌≤◌, ◌<◌, ◌+◌, ℕ, [], ◌∷◌, length, slice_get, None, Err, MatchResult, IfOk, IfErr, IfSome, OnOk, OnErr};
 ghost use Rattle.std.specs.Option.{option_copied};
 ghost use Rattle.std.specs.Result.{IsErrOf};
-ghost use Rattle.keeper_core.specs.Keeping.{Applies, AppliesNoneOrAll};
+ghost use Rattle.keeper_core.specs.Tables.{rows_of};
+ghost use Rattle.keeper_core.specs.Knowing.{FailsNext, LooksAtMost};
+ghost use Rattle.keeper_core.specs.Leaving.{Leaves, ended, of_store_fault};
 ghost use Rattle.keeper_core.specs.StoreFaults.{HasCause};
 ghost use Rattle.key_ring.specs.Saying.{Says};
 ghost use Rattle.key_ring.specs.Signers.{signer_ring, signer_account, key_of, key_for, envelope_by, with_text, after_signing, IsSpent};
-ghost use Rattle.key_ring.specs.SignFaults.{IsStoreFault, IsRefusedFor};
-ghost use Rattle.key_ring.specs.UsedTexts.{StandsFor, IsKept, IsBacked, RowsStay, LacksForm, kept_change, changes_for};
+ghost use Rattle.key_ring.specs.SignFaults.{of_sign_fault, IsStoreFault, IsRefusedFor};
+ghost use Rattle.key_ring.specs.UsedTexts.{StandsFor, IsKept, IsBacked, RowsStay, LacksForm, kept_change, batches_for};
 
 use crate::envelope::Envelope;
 use crate::key_spec::KeySpec;
@@ -43,9 +45,10 @@ impl Model for Signer {
 
     ghost Value = { SignerTold };
 
-    ghost view = { λ s. record { seed = s.spec.seed; ident = s.spec.ident; size = s.spec.size; texts = s.texts.items } };
+    ghost view = { λ s. record { spec = s.spec; texts = s.texts.items } };
 
-    ghost invariant = { λ s. (s.ring ≡ ring_text (ring_made s.spec.seed s.spec.ident s.spec.size)) × (length s.texts.items ≤ s.spec.size) × (length s.spec.ident ≡ 16) };
+    ghost invariant = { λ s. (s.ring ≡ ring_text (ring_made s.spec.seed s.spec.ident s.spec.size))
+        × (length s.texts.items ≤ s.spec.size) × (length s.spec.ident ≡ 16) };
 }
 
 impl Signer {
@@ -55,16 +58,20 @@ impl Signer {
         spec: &KeySpec,
         keeper: &mut K,
     ) -> Result<Signer, StoreFault>
-        ensures ring { IfOk result (λ signer. signer ≡ record { seed = spec.now.seed; ident = spec.now.ident; size = spec.now.size; texts = signer.texts }) }
-        ensures texts { IfOk result (λ signer. IfSome (K.tables keeper.new) (λ tables. StandsFor tables signer.texts)) }
+        ensures ring { IfOk result (λ signer. signer
+            ≡ record { spec = spec.now; texts = signer.texts }) }
+        ensures texts { IfOk result (λ signer. IfSome (K.known keeper.new).tables
+            (λ tables. StandsFor tables signer.texts)) }
         ensures few { IfOk result (λ signer. length signer.texts ≤ spec.now.size) }
-        ensures backed { IfOk result (λ signer. IsBacked (K.tables keeper.new) (K.stopped keeper.new) signer.texts) }
-        ensures cause { IfErr result (HasCause (LacksForm spec.now.size (K.tables keeper.old)) (K.tables keeper.old) (K.faults keeper.old) (K.faults keeper.new)) }
-        ensures stopped { IsTrue (K.stopped keeper.old) → IsErrOf result StoreFault.Keeper }
-        ensures unchanged { K.tables keeper.new ≡ K.tables keeper.old }
-        ensures same_stop { K.stopped keeper.new ≡ K.stopped keeper.old }
-        ensures quiet { OnOk result (K.faults keeper.new ≡ K.faults keeper.old) }
-        ensures count { K.faults keeper.old ≤ K.faults keeper.new }
+        ensures backed { IfOk result (λ signer. IsBacked (K.known keeper.new) signer.texts) }
+        ensures cause { IfErr result (HasCause
+            (LacksForm spec.now.size (K.known keeper.new).tables) (K.known keeper.new).tables) }
+        ensures leaves { Leaves [] (ended of_store_fault result) (K.known keeper.old)
+            (K.known keeper.new) }
+        ensures fails { FailsNext (K.known keeper.old) → IsErrOf result StoreFault.Keeper }
+        ensures looked { IfSome (K.known keeper.new).tables
+            (λ tables. LooksAtMost (1 + length (rows_of 8 tables)) (K.known keeper.old)
+            (K.known keeper.new)) }
     {
         let rows = keeper.scan(USED_TAB)?;
         let texts = read_texts(alloc, rows, spec.size)?;
@@ -79,7 +86,7 @@ impl Signer {
 
     /// How many keys the ring has.
     pub fn size(&self) -> u16
-        ensures size { result ≡ self.now.size }
+        ensures size { result ≡ self.now.spec.size }
         ensures few { result ≤ 64 }
     {
         self.spec.size
@@ -88,7 +95,7 @@ impl Signer {
     /// How many texts are signed. The next key has that number.
     pub fn used(&self) -> u16
         ensures used { result ≡ length self.now.texts }
-        ensures few { result ≤ self.now.size }
+        ensures few { result ≤ self.now.spec.size }
     {
         self.texts.len() as u16
     }
@@ -111,7 +118,7 @@ impl Signer {
     /// The key that has signed the text.
     fn key_of(&self, text: &[u8]) -> Option<u32>
         ensures key { result ≡ key_of self.now text.now }
-        ensures within { IfSome result (λ q. q < self.now.size) }
+        ensures within { IfSome result (λ q. q < self.now.spec.size) }
     {
         for (q, signed) in self.texts.iter().enumerate() {
             if signed.as_slice() == text {
@@ -124,7 +131,7 @@ impl Signer {
     /// The envelope with this message, signed by a key of the ring. It takes no memory.
     fn seal(&self, q: u32, ring: Vec<u8>, message: Vec<u8>) -> Envelope
         requires ring { ring.items ≡ signer_ring self.now }
-        requires key { q < self.now.size }
+        requires key { q < self.now.spec.size }
         ensures made { result ≡ envelope_by self.now q message.items }
         ensures says { Says result (signer_account self.now) q message.items }
     {
@@ -146,8 +153,9 @@ impl Signer {
 
     /// The envelope of a text that the key has signed.
     fn sign_again(&self, q: u32, text: &[u8]) -> Result<Envelope, SignFault>
-        requires { q < self.now.size }
-        ensures made { MatchResult result (λ env. env ≡ envelope_by self.now q text.now) (λ fault. fault ≡ SignFault.Store StoreFault.NoMemory) }
+        requires { q < self.now.spec.size }
+        ensures made { MatchResult result (λ env. env ≡ envelope_by self.now q text.now)
+            (λ fault. fault ≡ SignFault.Store StoreFault.NoMemory) }
         ensures says { IfOk result (λ env. Says env (signer_account self.now) q text.now) }
     {
         let ring = self.ring_copied()?;
@@ -166,19 +174,17 @@ impl Signer {
 
     /// The envelope of a text that no key has signed, once the keeper has the text.
     fn sign_new<K: Keeper>(&mut self, keeper: &mut K, text: &[u8]) -> Result<Envelope, SignFault>
-        requires { length self.old.texts < self.old.size }
-        ensures envelope { IfOk result (λ env. env ≡ envelope_by self.old (length self.old.texts) text.now) }
-        ensures says { IfOk result (λ env. Says env (signer_account self.old) (length self.old.texts) text.now) }
+        requires { length self.old.texts < self.old.spec.size }
+        ensures envelope { IfOk result (λ env. env ≡ envelope_by self.old
+            (length self.old.texts) text.now) }
+        ensures says { IfOk result (λ env. Says env (signer_account self.old)
+            (length self.old.texts) text.now) }
         ensures kept { OnOk result (self.new ≡ with_text self.old text.now) }
         ensures unchanged { OnErr result (self.new ≡ self.old) }
-        ensures applies { OnOk result (Applies (K.tables keeper.old) (kept_change self.old text.now ∷ []) (K.tables keeper.new)) }
-        ensures none_or_all { OnErr result (AppliesNoneOrAll (K.tables keeper.old) (kept_change self.old text.now ∷ []) (K.tables keeper.new)) }
-        ensures as_before { OnErr result (K.stopped keeper.new ≡ K.stopped keeper.old → K.tables keeper.new ≡ K.tables keeper.old) }
-        ensures stopped { IsTrue (K.stopped keeper.old) → IsErr result × IsTrue (K.stopped keeper.new) }
-        ensures same_stop { IsErrOf result (SignFault.Store StoreFault.Keeper) ⊎ (K.stopped keeper.new ≡ K.stopped keeper.old) }
-        ensures cause { IfErr result (IsStoreFault (K.faults keeper.old) (K.faults keeper.new)) }
-        ensures quiet { OnOk result (K.faults keeper.new ≡ K.faults keeper.old) }
-        ensures count { K.faults keeper.old ≤ K.faults keeper.new }
+        ensures leaves { Leaves ((kept_change self.old text.now ∷ []) ∷ [])
+            (ended of_sign_fault result) (K.known keeper.old) (K.known keeper.new) }
+        ensures cause { IfErr result IsStoreFault }
+        ensures looked { (K.known keeper.new).looked ≡ (K.known keeper.old).looked }
     {
         let q = u32::from(self.used());
         let ring = self.ring_copied()?;
@@ -202,25 +208,27 @@ impl Signer {
         text: &[u8],
         reserve: u16,
     ) -> Result<Envelope, SignFault>
-        requires reserve { reserve ≤ self.old.size }
+        requires reserve { reserve ≤ self.old.spec.size }
         requires text { length text.now ≤ 16384 }
-        requires backed { IsBacked (K.tables keeper.old) (K.stopped keeper.old) self.old.texts }
-        ensures envelope { IfOk result (λ env. env ≡ envelope_by self.old (key_for self.old text.now) text.now) }
-        ensures says { IfOk result (λ env. Says env (signer_account self.old) (key_for self.old text.now) text.now) }
-        ensures kept { OnOk result (IfSome (K.tables keeper.new) (λ tables. IsKept tables (key_for self.old text.now) text.now)) }
+        requires backed { IsBacked (K.known keeper.old) self.old.texts }
+        ensures envelope { IfOk result (λ env. env ≡ envelope_by self.old
+            (key_for self.old text.now) text.now) }
+        ensures says { IfOk result (λ env. Says env (signer_account self.old)
+            (key_for self.old text.now) text.now) }
+        ensures kept { OnOk result (IfSome (K.known keeper.new).tables
+            (λ tables. IsKept tables (key_for self.old text.now) text.now)) }
         ensures signed { OnOk result (self.new ≡ after_signing self.old text.now) }
         ensures unchanged { OnErr result (self.new ≡ self.old) }
-        ensures spent { (used size : ℕ) → (result ≡ Err (SignFault.KeysSpent used size)) ↔ IsSpent self.old text.now reserve used size }
-        ensures cause { IfErr result (IsRefusedFor self.old text.now reserve (K.faults keeper.old) (K.faults keeper.new)) }
-        ensures applies { OnOk result (Applies (K.tables keeper.old) (changes_for self.old text.now) (K.tables keeper.new)) }
-        ensures none_or_all { OnErr result (AppliesNoneOrAll (K.tables keeper.old) (changes_for self.old text.now) (K.tables keeper.new)) }
-        ensures as_before { OnErr result (K.stopped keeper.new ≡ K.stopped keeper.old → K.tables keeper.new ≡ K.tables keeper.old) }
-        ensures no_call { (key_of self.old text.now ≡ None → self.old.size ≤ length self.old.texts + reserve) → keeper.new ≡ keeper.old }
-        ensures rows_stay { RowsStay (K.tables keeper.old) (K.tables keeper.new) }
-        ensures backed { IsBacked (K.tables keeper.new) (K.stopped keeper.new) self.new.texts }
-        ensures same_stop { IsErrOf result (SignFault.Store StoreFault.Keeper) ⊎ (K.stopped keeper.new ≡ K.stopped keeper.old) }
-        ensures quiet { OnOk result (K.faults keeper.new ≡ K.faults keeper.old) }
-        ensures count { K.faults keeper.old ≤ K.faults keeper.new }
+        ensures spent { (used size : ℕ) → (result ≡ Err (SignFault.KeysSpent used size))
+            ↔ IsSpent self.old text.now reserve used size }
+        ensures cause { IfErr result (IsRefusedFor self.old text.now reserve) }
+        ensures leaves { Leaves (batches_for self.old text.now) (ended of_sign_fault result)
+            (K.known keeper.old) (K.known keeper.new) }
+        ensures no_call { (key_of self.old text.now ≡ None
+            → self.old.spec.size ≤ length self.old.texts + reserve) → keeper.new ≡ keeper.old }
+        ensures rows_stay { RowsStay (K.known keeper.old).tables (K.known keeper.new).tables }
+        ensures backed { IsBacked (K.known keeper.new) self.new.texts }
+        ensures looked { (K.known keeper.new).looked ≡ (K.known keeper.old).looked }
     {
         let used = self.used();
         let size = self.size();

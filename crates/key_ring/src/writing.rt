@@ -28,7 +28,8 @@ pub fn write_envelope(alloc: Global, env: &Envelope) -> Result<List<u8>, NoMemor
     requires ring { length env.now.ring < 2 ^ 32 }
     requires message { length env.now.message < 2 ^ 32 }
     ensures text { IfOk result (λ text. text ≡ envelope_text env.now) }
-    ensures len { IfOk result (λ text. length text ≡ 2192 + length env.now.ring + length env.now.message) }
+    ensures len { IfOk result (λ text. length text
+        ≡ 2192 + length env.now.ring + length env.now.message) }
 {
     let mut text = Vec::new(alloc);
     put_text(&mut text, env.ring.as_slice())?;
@@ -48,7 +49,8 @@ pub fn make_envelope(
 ) -> Result<Envelope, NoMemory>
     requires key { q < spec.now.size }
     requires message { length message.now ≤ 16384 }
-    ensures envelope { IfOk result (λ env. env ≡ envelope_made spec.now.seed spec.now.ident spec.now.size q message.now) }
+    ensures envelope { IfOk result (λ env. env
+        ≡ envelope_made spec.now.seed spec.now.ident spec.now.size q message.now) }
     ensures says { IfOk result (λ env. Says env (sha256 env.ring) q message.now) }
     ensures ring_len { IfOk result (λ env. length env.ring ≡ 26 + 32 * spec.now.size) }
 {

@@ -1,6 +1,8 @@
 //! Signers over a keeper in memory. The account and the digests were computed outside.
 
-ghost use Rattle.std.specs.Prelude.{◌≡◌};
+ghost use Rattle.std.specs.Prelude.{◌≡◌, ◌≤◌, length};
+ghost use Rattle.std.specs.Result.{IsErrOf};
+ghost use Rattle.keeper_core.specs.Knowing.{IsUnarmed};
 
 use super::{IDENT, SEED};
 use crate::{Envelope, KeySpec, Said, SignFault, Signer, check};
@@ -151,5 +153,34 @@ fn refusals_of_signers_are_told(rt: HostRuntime) -> Result<(), Fail> {
         "1 KeysSpent 2 3, 2 Store 1 Keeper, 2 Store 3 NoMemory"
     );
     assert_eq!(rt; kept.number(), 2);
+    Ok(())
+}
+
+/// Loads a signer over any keeper and signs a text. A keeper to which nothing is to come does not fail it.
+fn sign_once<K: Keeper>(
+    alloc: Global,
+    spec: &KeySpec,
+    keeper: &mut K,
+    text: &[u8],
+) -> Result<Envelope, SignFault>
+    requires { length text.now ≤ 16384 }
+    ensures fine { IsUnarmed (K.known keeper.old)
+        → ¬ (IsErrOf result (SignFault.Store StoreFault.Keeper)) }
+    ensures unarmed { IsUnarmed (K.known keeper.old) → IsUnarmed (K.known keeper.new) }
+{
+    let mut signer = Signer::load(alloc, spec, keeper)?;
+    signer.sign(keeper, text, 0)
+}
+
+#[test]
+fn a_caller_of_any_keeper_signs(rt: HostRuntime) -> Result<(), Fail> {
+    let alloc = rt.alloc();
+    let mut keeper = MemKeeper::new(alloc);
+    let env = sign_once(alloc, &three_keys(), &mut keeper, b"a")?;
+    assert_eq!(rt; env.q, 0);
+    let env = sign_once(alloc, &three_keys(), &mut keeper, b"b")?;
+    assert_eq!(rt; env.q, 1);
+    assert_eq!(rt; keeper.faults(), 0);
+    assert_eq!(rt; keeper.looked(), 3);
     Ok(())
 }

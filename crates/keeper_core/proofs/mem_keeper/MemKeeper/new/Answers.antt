@@ -6,7 +6,7 @@ use Rattle.keeper_core.proofs.Filled.{filled_empty}
 use Rattle.keeper_core.proofs.mem_keeper.MemKeeper.new.Goals as goal
 
 start_with : Tables → KeeperTold
-start_with tables = record { tables = tables; armed = None; stopped = false; faults = 0 }
+start_with tables = record { tables = tables; armed = None; stopped = false; faults = 0; looked = 0 }
 
 pub returns : goal.returns
 unfolding start_with

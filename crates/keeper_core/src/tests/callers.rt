@@ -1,0 +1,91 @@
+//! Callers of any keeper: what they say of it follows from the trait and the relation alone.
+
+ghost use Rattle.std.specs.Prelude.{◌≡◌, [], ◌∷◌, false, Some, IfOk, OnOk};
+ghost use Rattle.std.specs.Result.{IsErrOf};
+ghost use Rattle.keeper_core.specs.Knowing.{FailsNext, IsUnarmed, LooksAtMost};
+ghost use Rattle.keeper_core.specs.Keeping.{AnswersByMap};
+ghost use Rattle.keeper_core.specs.Leaving.{Leaves, done, ended, of_keep_fault, of_store_fault, Applies};
+
+use super::*;
+
+/// Reads a cell, commits the batch, and reads the cell again.
+pub fn change_seen<K: Keeper>(
+    keeper: &mut K,
+    tab: u8,
+    key: &[u8],
+    batch: &Batch,
+) -> Result<Option<List<u8>>, KeepFault>
+    ensures answers { IfOk result (AnswersByMap (K.known keeper.new).tables tab key.now) }
+    ensures leaves { OnOk result (Leaves (batch.now ∷ []) done
+        (K.known keeper.old) (K.known keeper.new)) }
+    ensures fine { IsUnarmed (K.known keeper.old) → ¬ (IsErrOf result KeepFault.Failed) }
+    ensures unarmed { IsUnarmed (K.known keeper.old) → IsUnarmed (K.known keeper.new) }
+    ensures stops_after { (K.known keeper.old).coming ≡ Some (Some Arm.StopAfter)
+        → (K.known keeper.old).stopped ≡ false → IsErrOf result KeepFault.Failed
+        → Applies (K.known keeper.old).tables (batch.now ∷ []) (K.known keeper.new).tables }
+    ensures looked { LooksAtMost 2 (K.known keeper.old) (K.known keeper.new) }
+{
+    let _before = keeper.get(tab, key)?;
+    keeper.commit(batch)?;
+    keeper.get(tab, key)
+}
+
+/// Looks at two cells, refuses where the first is empty, and commits: the shape of a node's call.
+#[tactic(auto, using(crate::proofs::Leaving::failed_look, crate::proofs::Leaving::starved_look, crate::proofs::Leaving::failed_look_on, crate::proofs::Leaving::starved_look_on))]
+pub fn look_and_commit<K: Keeper>(
+    keeper: &mut K,
+    tab: u8,
+    key: &[u8],
+    batch: &Batch,
+) -> Result<(), StoreFault>
+    ensures leaves { Leaves (batch.now ∷ []) (ended of_store_fault result)
+        (K.known keeper.old) (K.known keeper.new) }
+    ensures fails { FailsNext (K.known keeper.old) → IsErrOf result StoreFault.Keeper }
+    ensures fine { IsUnarmed (K.known keeper.old) → ¬ (IsErrOf result StoreFault.Keeper) }
+    ensures looked { LooksAtMost 2 (K.known keeper.old) (K.known keeper.new) }
+{
+    let first = keeper.get(tab, key)?;
+    if first.is_none() {
+        return Err(StoreFault::bad_row(tab, key));
+    }
+    let _second = keeper.get(tab, b"k")?;
+    keeper.commit(batch)?;
+    Ok(())
+}
+
+/// Makes two batches, one after the other, and looks at a cell between them.
+#[tactic(auto, using(crate::proofs::Leaving::failed_look, crate::proofs::Leaving::starved_look, crate::proofs::Leaving::failed_first, crate::proofs::Leaving::starved_first, crate::proofs::Leaving::done_next, crate::proofs::Leaving::failed_next, crate::proofs::Leaving::starved_next, crate::proofs::Leaving::done_look))]
+pub fn commit_both<K: Keeper>(
+    keeper: &mut K,
+    tab: u8,
+    first: &Batch,
+    second: &Batch,
+) -> Result<(), KeepFault>
+    ensures leaves { Leaves (first.now ∷ second.now ∷ []) (ended of_keep_fault result)
+        (K.known keeper.old) (K.known keeper.new) }
+    ensures fails { FailsNext (K.known keeper.old) → IsErrOf result KeepFault.Failed }
+    ensures looked { LooksAtMost 1 (K.known keeper.old) (K.known keeper.new) }
+{
+    keeper.commit(first)?;
+    let _between = keeper.get(tab, b"k")?;
+    keeper.commit(second)?;
+    Ok(())
+}
+
+#[test]
+fn a_caller_of_any_keeper_sees_its_change(rt: HostRuntime) -> Result<(), Fail> {
+    let alloc = rt.alloc();
+    let mut keeper = filled(alloc)?;
+    let batch = one_put(alloc)?;
+    let new = change_seen(&mut keeper, 2, b"a", &batch)?;
+    assert!(rt; are(&new, b"new"));
+    assert_eq!(rt; keeper.looked(), 2);
+    commit_both(&mut keeper, 2, &batch, &Batch::new(alloc))?;
+    keeper.arm(Arm::StopAfter);
+    assert_eq!(rt;
+        look_and_commit(&mut keeper, 2, b"a", &batch),
+        Err(StoreFault::Keeper)
+    );
+    assert!(rt; keeper.has_stopped());
+    Ok(())
+}
