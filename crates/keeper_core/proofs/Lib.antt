@@ -14,3 +14,4 @@ pub mod OneListing
 pub mod NumberedOn
 pub mod Leaving
 pub mod OtherTables
+pub mod Stepping

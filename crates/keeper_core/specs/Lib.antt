@@ -14,3 +14,4 @@ pub mod NumberedRows
 pub mod Knowing
 pub mod Leaving
 pub mod Following
+pub mod Stepping
