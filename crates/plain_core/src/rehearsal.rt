@@ -93,7 +93,8 @@ fn answered(halt: PlainHalt) -> PlainHalt
     }
 }
 
-/// Rehearses a plain script: the whole report, or the first line that breaks a rule.
+/// Rehearses a plain script: the whole report, or the line that is refused. This is the first line that breaks a
+/// rule of the reading, and only where there is none the first event whose numbers are out of range.
 pub fn rehearse_plain(alloc: Global, script: &[u8]) -> Result<List<u8>, PlainHalt>
     ensures { GivesReport result (rehearsal_of script.now) }
 {
