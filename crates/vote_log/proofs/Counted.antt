@@ -15,7 +15,7 @@ use Rattle.vote_log.specs.Tallies.{IsTally, StandsFor, IsSmall, all_placed, plac
 use Rattle.vote_log.proofs.Below.{all_same}
 use Rattle.vote_log.proofs.Pushed.{entry_of, or_later, or_none, by_pushes, start_with, start_push, place_push, place_other, decision_at, outcome_push, other_decides, other_commit}
 
-start_before : (log : List Entry) (deal : Id) (x : Entry) (o : Option Started) → first_start log deal ≡ o → first_start (log ++ x ∷ []) deal ≡ None → first_start log deal ≡ None
+pub start_before : (log : List Entry) (deal : Id) (x : Entry) (o : Option Started) → first_start log deal ≡ o → first_start (log ++ x ∷ []) deal ≡ None → first_start log deal ≡ None
 start_before log deal x None e h = e
 start_before log deal x (Some s) e h =
     let after : first_start (log ++ x ∷ []) deal ≡ Some (followed s x) = start_push log deal x ∙ ap (λ o. start_with deal (length log) o x) e in

@@ -8,3 +8,4 @@ pub mod Taken
 pub mod Lists
 pub mod Placed
 pub mod FirstDecisive
+pub mod Tallied

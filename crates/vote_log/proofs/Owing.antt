@@ -158,7 +158,7 @@ uncommitted_other log deal entry (Some s) other e =
     ap (uncommitted deal) (started_push log deal s entry e)
     ∙ count_same (λ k. not (has_committed deal (followed s entry) k)) (λ k. not (has_committed deal s k)) s.parties (λ k less. ap (λ o. not (is_some o)) (place_other deal s k entry (other_commit deal k entry other)))
 
-outcome_other : (log : List Entry) (deal : Id) (entry : Entry) → is_of deal entry ≡ false → outcome_of (log ++ entry ∷ []) deal ≡ outcome_of log deal
+pub outcome_other : (log : List Entry) (deal : Id) (entry : Entry) → is_of deal entry ≡ false → outcome_of (log ++ entry ∷ []) deal ≡ outcome_of log deal
 outcome_other log deal entry other =
     outcome_push log deal entry ∙ (ap (λ o. or_later (outcome_of log deal) (decision_at (length log) o)) (other_decides deal (first_start log deal) entry other) ∙ or_none (outcome_of log deal))
 

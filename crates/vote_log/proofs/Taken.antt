@@ -13,11 +13,11 @@ use Rattle.vote_log.specs.Deciding.{Started, is_of, is_commit, first_start, foll
 use Rattle.vote_log.specs.Owed.{count_below, uncommitted, owed_by, owed_of}
 use Rattle.vote_log.specs.Admission.{votable_by, votable_of, no_account, start_refusal, commit_refusal, earlier_commit, vote_refusal, add_refusal, IsLogFrom, IsLog}
 use Rattle.vote_log.specs.Log.{IsKept}
-use Rattle.vote_log.specs.Tallies.{StandsFor, unplaced, place_in, votable_by_decision, votable_in, start_refusal_in, refusal_by_kind, refusal_in, tally_after, owed_in}
+use Rattle.vote_log.specs.Tallies.{StandsFor, unplaced, place_in, votable_by_decision, votable_in, start_refusal_in, refusal_by_kind, refusal_in, owed_in}
 use Rattle.vote_log.proofs.Ids.{bytes_eq-refl}
 use Rattle.vote_log.proofs.Below.{one_fails, count_same, count_most, count_some, count_drops}
 use Rattle.vote_log.proofs.Pushed.{entry_of, or_later, start_push, place_push, start_with}
-use Rattle.vote_log.proofs.Counted.{started_push, stands_push}
+use Rattle.vote_log.proofs.Counted.{started_push}
 use Rattle.vote_log.proofs.Decided.{lacks, abort_now}
 use Rattle.vote_log.proofs.Owing.{owed_push, owed_by-le, owed_none}
 
@@ -209,17 +209,47 @@ vote_fits log limit vote h kind e =
     omega (arith, lower, part, fits)
 
 -- what the code computes for a record that is taken
-pub record Owes (log : List Entry) (limit owed before after : ℕ) (entry : Entry) : Type 0 where
-  pub part : before ≤ owed
-  pub kept : IsKept (log ++ entry ∷ []) limit (owed - before + after)
+pub record Owes (log : List Entry) (limit owed : ℕ) (t u : Option Tally) (entry : Entry) : Type 0 where
+  pub part : owed_in t ≤ owed
+  pub kept : IsKept (log ++ entry ∷ []) limit (owed - owed_in t + owed_in u)
 
-pub owes : (log : List Entry) (limit owed before after : ℕ) (t : Option Tally) (entry : Entry) → IsKept log limit owed → IsInRange entry.kind entry.num → StandsFor log entry.deal t
-    → add_refusal log limit entry ≡ None → before ≡ owed_in t → after ≡ owed_in (tally_after entry.deal t entry (length log)) → Owes log limit owed before after entry
-owes log limit owed before after t entry h range s e b a =
-    let was : before ≡ owed_by log entry.deal = b ∙ owed_same log entry.deal t s in
-    let is : after ≡ owed_by (log ++ entry ∷ []) entry.deal = a ∙ owed_same (log ++ entry ∷ []) entry.deal (tally_after entry.deal t entry (length log)) (stands_push log entry.deal t entry range s) in
-    let part' : before ≤ owed = omega (arith, was, h.counted, owed_by-le log entry.deal) in
+pub owes : (log : List Entry) (limit owed : ℕ) (t u : Option Tally) (entry : Entry)
+    → IsKept log limit owed → StandsFor log entry.deal t → StandsFor (log ++ entry ∷ []) entry.deal u
+    → add_refusal log limit entry ≡ None → Owes log limit owed t u entry
+owes log limit owed t u entry h s after e =
+    let was : owed_in t ≡ owed_by log entry.deal = owed_same log entry.deal t s in
+    let is : owed_in u ≡ owed_by (log ++ entry ∷ []) entry.deal = owed_same (log ++ entry ∷ []) entry.deal u after in
+    let part' : owed_in t ≤ owed = omega (arith, was, h.counted, owed_by-le log entry.deal) in
     record {
       part = part';
-      kept = kept_push log limit owed (owed - before + after) entry h e (omega (arith, was, is, part'));
+      kept = kept_push log limit owed (owed - owed_in t + owed_in u) entry h e (omega (arith, was, is, part'));
+    }
+
+log_from_front : (limit : ℕ) (front rest : List Entry) (entry : Entry)
+    → IsLogFrom limit front (rest ++ entry ∷ []) → IsLogFrom limit front rest
+log_from_front limit front [] entry h = tt
+log_from_front limit front (x ∷ rest) entry h = (h.0, log_from_front limit (front ++ x ∷ []) rest entry h.1)
+
+-- what it computes where the last record is taken back
+pub record Owed (log : List Entry) (limit owed : ℕ) (t u : Option Tally) : Type 0 where
+  pub part : owed_in t ≤ owed
+  pub kept : IsKept log limit (owed - owed_in t + owed_in u)
+
+pub owed_back : (log : List Entry) (limit owed : ℕ) (t u : Option Tally) (entry : Entry)
+    → IsKept (log ++ entry ∷ []) limit owed → StandsFor (log ++ entry ∷ []) entry.deal t → StandsFor log entry.deal u
+    → Owed log limit owed t u
+owed_back log limit owed t u entry h s before =
+    let was : owed_in t ≡ owed_by (log ++ entry ∷ []) entry.deal = owed_same (log ++ entry ∷ []) entry.deal t s in
+    let is : owed_in u ≡ owed_by log entry.deal = owed_same log entry.deal u before in
+    let part' : owed_in t ≤ owed = omega (arith, was, h.counted, owed_by-le (log ++ entry ∷ []) entry.deal) in
+    let counted' : owed - owed_in t + owed_in u ≡ owed_of log = omega (arith, was, is, part', h.counted, owed_push log entry) in
+    let reached' : IsLogFrom limit [] log = log_from_front limit [] log entry h.reached in
+    record {
+      part = part';
+      kept = record {
+        reached = reached';
+        counted = counted';
+        room = omega (arith, counted', room log limit reached');
+        fits = h.fits;
+      };
     }

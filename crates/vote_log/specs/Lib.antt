@@ -7,3 +7,4 @@ pub mod LogFaults
 pub mod Admission
 pub mod Log
 pub mod Tallies
+pub mod Tallied

@@ -9,14 +9,14 @@ ghost use Rattle.vote_log.specs.Tallies.{IsSmall, place_in, votable_in, start_re
 use crate::kind::Kind;
 use crate::log_fault::LogFault;
 use crate::log_record::LogRecord;
-use crate::tally::{Tally, counted, owed_by, tally_of};
+use crate::tally::Tally;
 use dh_base::Id;
 
 /// The account of an index that no party has.
 const NO_ACCOUNT: Id = Id([0; 32]);
 
 /// How many parties may vote on the deal of this tally.
-fn votable_by(tally: &Option<Tally>) -> Result<u16, LogFault>
+pub fn votable_by(tally: &Option<Tally>) -> Result<u16, LogFault>
     ensures { result ≡ votable_in tally.now }
 {
     let Some(tally) = tally else {
@@ -29,14 +29,6 @@ fn votable_by(tally: &Option<Tally>) -> Result<u16, LogFault>
         }),
         None => Ok(tally.parties),
     }
-}
-
-/// How many parties may vote on the deal, if it is started and undecided.
-pub fn votable(recs: &[LogRecord], deal: &Id) -> Result<u16, LogFault>
-    requires { length recs.now < 2 ^ 32 }
-    ensures { result ≡ votable_of recs.now deal.now }
-{
-    votable_by(&tally_of(recs, deal))
 }
 
 /// Why a start is refused.
@@ -85,7 +77,7 @@ fn vote_refusal(
 }
 
 /// Why a record is refused, by the tally of its deal.
-fn refusal(
+pub fn refusal(
     tally: &Option<Tally>,
     len: u32,
     owed: u32,
@@ -100,26 +92,4 @@ fn refusal(
         Kind::Commit => vote_refusal(votable_by(tally), num, commit_place(tally, num)),
         Kind::Abort => vote_refusal(votable_by(tally), num, None),
     }
-}
-
-/// How many votes are owed after the record, if the log takes it.
-pub fn owed_with(
-    recs: &[LogRecord],
-    limit: u32,
-    owed: u32,
-    rec: &LogRecord,
-) -> Result<u32, LogFault>
-    requires { IsKept recs.now limit owed }
-    ensures taken { OnOk result (add_refusal recs.now limit rec.now ≡ None) }
-    ensures kept { IfOk result (λ after. IsKept (recs.now ++ rec.now ∷ []) limit after) }
-    ensures refused { IfErr result (λ fault. add_refusal recs.now limit rec.now ≡ Some fault) }
-{
-    let place = recs.len() as u32;
-    let tally = tally_of(recs, &rec.deal);
-    if let Some(fault) = refusal(&tally, place, owed, limit, rec) {
-        return Err(fault);
-    }
-    let before = owed_by(&tally);
-    let after = owed_by(&counted(tally, &rec.deal, rec, place));
-    Ok(owed - before + after)
 }

@@ -4,6 +4,7 @@
 //! - `kind`, `log_record`: the records of a log.
 //! - `decision`: what a log decides of a deal.
 //! - `tally`: the count of one deal's votes.
+//! - `tallies`: the tallies of all deals.
 //! - `admission`: which records a log takes.
 //! - `log_fault`: the refusals.
 //! - `records`: a log that grows.
@@ -17,6 +18,7 @@ pub mod laws;
 pub mod log_fault;
 pub mod log_record;
 pub mod records;
+mod tallies;
 mod tally;
 
 pub use decision::{Decision, outcome};

@@ -1,11 +1,16 @@
 //! A log that grows.
 
 ghost use Rattle.std.specs.Prelude.{◌≡◌, ◌≤◌, ◌<◌, ◌^◌, ◌++◌, ◌∷◌, [], Ok, Err, None, Some, length, OnOk, OnErr, IfOk, IfErr};
+ghost use Rattle.std.specs.Option.{MatchOption};
+ghost use Rattle.vote_log.specs.Deciding.{outcome_of};
 ghost use Rattle.vote_log.specs.Admission.{add_refusal, votable_of, IsLog, IsRefusal};
 
-use crate::admission::{owed_with, votable};
+use crate::admission::{refusal, votable_by};
+use crate::decision::Decision;
 use crate::log_fault::LogFault;
 use crate::log_record::LogRecord;
+use crate::tallies::Tallies;
+use crate::tally::{counted, owed_after, tally_of};
 use dh_base::Id;
 use std::alloc::Global;
 use std::marker::Model;
@@ -17,16 +22,18 @@ pub struct Records {
     records: Vec<LogRecord>,
     limit: u32,
     owed: u32,
+    tallies: Tallies,
 }
 
 impl Model for Records {
-    ghost use Rattle.vote_log.specs.Log.{Log, IsKept};
+    ghost use Rattle.vote_log.specs.Log.{Log};
+    ghost use Rattle.vote_log.specs.Tallied.{IsTallied};
 
     ghost Value = { Log };
 
     ghost view = { λ a. record { entries = a.records.items; limit = a.limit } };
 
-    ghost invariant = { λ a. IsKept a.records.items a.limit a.owed };
+    ghost invariant = { λ a. IsTallied a.records.items a.limit a.owed a.tallies };
 }
 
 impl Records {
@@ -38,6 +45,7 @@ impl Records {
             records: Vec::new(alloc),
             limit,
             owed: 0,
+            tallies: Tallies::new(alloc),
         }
     }
 
@@ -58,11 +66,18 @@ impl Records {
         self.records.len()
     }
 
-    /// How many parties the deal has, if it is started and undecided.
+    /// How many parties the deal has, if it is started and undecided. It takes no memory.
     pub fn votable(&self, deal: &Id) -> Result<u16, LogFault>
         ensures { result ≡ votable_of self.now.entries deal.now }
     {
-        votable(self.records.as_slice(), deal)
+        votable_by(&self.tallies.get(deal).copied())
+    }
+
+    /// What the log decides of the deal, and where: the `outcome` of its records. It takes no memory.
+    pub fn decision(&self, deal: &Id) -> Option<Decision>
+        ensures { result ≡ outcome_of self.now.entries deal.now }
+    {
+        self.tallies.get(deal)?.decision
     }
 
     /// Adds a record, and answers its place.
@@ -75,9 +90,37 @@ impl Records {
         ensures unchanged { OnErr result (self.new ≡ self.old) }
     {
         let place = self.records.len() as u32;
-        let owed = owed_with(self.records.as_slice(), self.limit, self.owed, rec)?;
+        let before = self.tallies.get(&rec.deal).copied();
+        if let Some(fault) = refusal(&before, place, self.owed, self.limit, rec) {
+            return Err(fault);
+        }
+        let after = counted(before, &rec.deal, rec, place);
+        let owed = owed_after(self.owed, &before, &after);
         self.records.push(*rec)?;
-        self.owed = owed;
-        Ok(place)
+        match self.tallies.put(&rec.deal, after) {
+            Ok(()) => {
+                self.owed = owed;
+                Ok(place)
+            }
+            Err(_) => {
+                self.records.pop();
+                Err(LogFault::NoMemory)
+            }
+        }
+    }
+
+    /// Takes the last record back, as where a commit failed that was to keep it. It takes no memory,
+    /// so a record can be added first, to learn whether it is refused, and be kept afterwards.
+    pub fn take_back(&mut self) -> Option<LogRecord>
+        ensures taken { MatchOption result (self.old.entries ≡ []) (λ last.
+            self.old ≡ record self.new { entries = self.new.entries ++ last ∷ [] }) }
+        ensures none { result ≡ None → self.new ≡ self.old }
+    {
+        let last = self.records.pop()?;
+        let before = self.tallies.get(&last.deal).copied();
+        let after = tally_of(self.records.as_slice(), &last.deal);
+        self.owed = owed_after(self.owed, &before, &after);
+        self.tallies.put_back(&last.deal, after);
+        Some(last)
     }
 }

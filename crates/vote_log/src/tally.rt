@@ -1,6 +1,6 @@
 //! The count of one deal's votes.
 
-ghost use Rattle.std.specs.Prelude.{◌≡◌, ◌≤◌, ◌<◌, ◌^◌, length};
+ghost use Rattle.std.specs.Prelude.{◌≡◌, ◌≤◌, ◌<◌, ◌^◌, ◌+◌, ◌-◌, length};
 ghost use Rattle.vote_log.specs.Entry.{IsInRange};
 ghost use Rattle.vote_log.specs.Tallies.{StandsFor, IsSmall, all_placed, unplaced, placed_with, tally_after, tally_with, committed_tally, aborted_tally, opened_tally, decided_first, owed_in};
 
@@ -11,7 +11,7 @@ use dh_base::{Id, Outcome};
 
 /// A started deal: where its first start stands and how many parties it names, where each index
 /// committed first, and what is decided.
-#[derive(Clone, Copy)]
+#[derive(Clone, Copy, Debug)]
 pub struct Tally {
     pub at: u32,
     pub parties: u16,
@@ -157,7 +157,7 @@ pub fn tally_of(recs: &[LogRecord], deal: &Id) -> Option<Tally>
 }
 
 /// How many votes the log keeps room for, for the deal of this tally.
-pub fn owed_by(tally: &Option<Tally>) -> u32
+fn owed_by(tally: &Option<Tally>) -> u32
     requires { IsSmall tally.now }
     ensures value { result ≡ owed_in tally.now }
     ensures few { result ≤ 16 }
@@ -166,4 +166,14 @@ pub fn owed_by(tally: &Option<Tally>) -> u32
         Some(tally) if tally.decision.is_none() => without_place(&tally.committed, tally.parties),
         _ => 0,
     }
+}
+
+/// How many votes the log keeps room for, once one deal's tally is another.
+pub fn owed_after(owed: u32, before: &Option<Tally>, after: &Option<Tally>) -> u32
+    requires small { IsSmall before.now × IsSmall after.now }
+    requires part { owed_in before.now ≤ owed }
+    requires fits { owed - owed_in before.now + owed_in after.now < 2 ^ 32 }
+    ensures { result ≡ owed - owed_in before.now + owed_in after.now }
+{
+    owed - owed_by(before) + owed_by(after)
 }

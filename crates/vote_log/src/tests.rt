@@ -89,3 +89,37 @@ fn log_room(rt: HostRuntime) {
         Ok(241)
     );
 }
+
+#[test]
+fn decided_by_tallies(rt: HostRuntime) {
+    let mut log = Records::new(rt.alloc(), 64);
+    let other = Id([8; 32]);
+    assert_eq!(rt; log.add(&start(2)), Ok(0));
+    assert_eq!(rt; log.add(&LogRecord::start(3, other)), Ok(1));
+    assert_eq!(rt; log.add(&commit(1)), Ok(2));
+    assert_eq!(rt; log.decision(&DEAL), None);
+    assert_eq!(rt; log.add(&commit(0)), Ok(3));
+    assert_eq!(rt; log.decision(&DEAL), decided(Outcome::Commit, 3));
+    assert_eq!(rt; log.decision(&other), None);
+    assert_eq!(rt; log.decision(&Id([9; 32])), None);
+    assert_eq!(rt; log.votable(&other), Ok(3));
+}
+
+#[test]
+fn last_record_taken_back(rt: HostRuntime) {
+    let mut log = Records::new(rt.alloc(), 3);
+    assert_eq!(rt; log.take_back(), None);
+    assert_eq!(rt; log.add(&start(2)), Ok(0));
+    assert_eq!(rt; log.take_back(), Some(start(2)));
+    assert_eq!(rt; log.votable(&DEAL), Err(LogFault::NotStarted));
+    assert_eq!(rt; log.add(&start(2)), Ok(0));
+    assert_eq!(rt; log.add(&commit(0)), Ok(1));
+    assert_eq!(rt; log.add(&abort(1)), Ok(2));
+    assert_eq!(rt; log.decision(&DEAL), decided(Outcome::Abort, 2));
+    assert_eq!(rt; log.take_back(), Some(abort(1)));
+    assert_eq!(rt; log.decision(&DEAL), None);
+    assert_eq!(rt; log.add(&commit(0)), Err(LogFault::VotedAlready { at: 1 }));
+    assert_eq!(rt; log.add(&commit(1)), Ok(2));
+    assert_eq!(rt; log.decision(&DEAL), decided(Outcome::Commit, 2));
+    assert_eq!(rt; log.len(), 3);
+}
