@@ -1,8 +1,11 @@
 //! What is wrong with a deal's text.
 
-use dh_base::refusal::write_refusal;
-use dh_base::{Field, FieldValue, NoMemory as OutOfMemory, Refusal};
-use std::alloc::{AllocError, AllocFailed};
+ghost use Rattle.std.specs.Prelude.{◌≡◌, slice_get};
+ghost use Rattle.dh_base.specs.Refusals.{option_telling_told};
+ghost use Rattle.deal_core.specs.DealFaults.{line_told};
+
+use dh_base::refusal::{number, write_refusal};
+use dh_base::{NoMemory as OutOfMemory, Refusal, Telling};
 use std::fmt;
 
 /// What is wrong with a deal's text. Lines count from 1.
@@ -28,28 +31,6 @@ pub enum DealFault {
     NoMemory,
 }
 
-impl From<AllocError> for DealFault {
-    ghost use Rattle.std.specs.Prelude.{◌≡◌};
-    ghost use Rattle.deal_core.specs.declared.deal_fault.DealFault.TheVariants.{NoMemory};
-
-    ghost from_gives = { λ _ fault. fault ≡ NoMemory };
-
-    fn from(_error: AllocError) -> DealFault {
-        DealFault::NoMemory
-    }
-}
-
-impl<T: Drop> From<AllocFailed<T>> for DealFault {
-    ghost use Rattle.std.specs.Prelude.{◌≡◌};
-    ghost use Rattle.deal_core.specs.declared.deal_fault.DealFault.TheVariants.{NoMemory};
-
-    ghost from_gives = { λ _ fault. fault ≡ NoMemory };
-
-    fn from(_error: AllocFailed<T>) -> DealFault {
-        DealFault::NoMemory
-    }
-}
-
 impl From<OutOfMemory> for DealFault {
     ghost use Rattle.std.specs.Prelude.{◌≡◌};
     ghost use Rattle.deal_core.specs.declared.deal_fault.DealFault.TheVariants.{NoMemory};
@@ -61,71 +42,51 @@ impl From<OutOfMemory> for DealFault {
     }
 }
 
+/// What a fault tells whose one field is the line.
+fn at_line(level: usize, fault_number: u16, name: &'static str, line: u32) -> Option<Telling>
+    ensures { option_telling_told result ≡ slice_get (line_told fault_number name.now line) level }
+{
+    Telling::at(
+        level,
+        fault_number,
+        name,
+        &[number("line", u64::from(line))],
+    )
+}
+
 impl Refusal for DealFault {
-    ghost use Rattle.deal_core.specs.DealFaults.{deal_fault_told, few_deal_fields};
+    ghost use Rattle.deal_core.specs.DealFaults.{deal_fault_told};
 
     ghost told = { deal_fault_told };
 
-    ghost few = { few_deal_fields };
-
-    fn number(&self) -> u16 {
+    fn telling(&self, level: usize) -> Option<Telling> {
         match self {
-            DealFault::BadLine { .. } => 1,
-            DealFault::PartyTwice { .. } => 2,
-            DealFault::UnknownParty { .. } => 3,
-            DealFault::SelfStep { .. } => 4,
-            DealFault::ZeroAmount { .. } => 5,
-            DealFault::TooMany { .. } => 6,
-            DealFault::SumTooLarge { .. } => 7,
-            DealFault::NotConnected { .. } => 8,
-            DealFault::NoMemory => 9,
-        }
-    }
-
-    fn name(&self) -> &'static str {
-        match self {
-            DealFault::BadLine { .. } => "BadLine",
-            DealFault::PartyTwice { .. } => "PartyTwice",
-            DealFault::UnknownParty { .. } => "UnknownParty",
-            DealFault::SelfStep { .. } => "SelfStep",
-            DealFault::ZeroAmount { .. } => "ZeroAmount",
-            DealFault::TooMany { .. } => "TooMany",
-            DealFault::SumTooLarge { .. } => "SumTooLarge",
-            DealFault::NotConnected { .. } => "NotConnected",
-            DealFault::NoMemory => "NoMemory",
-        }
-    }
-
-    fn field(&self, place: usize) -> Option<Field> {
-        match (self, place) {
-            (
-                DealFault::BadLine { line }
-                | DealFault::PartyTwice { line }
-                | DealFault::UnknownParty { line }
-                | DealFault::SelfStep { line }
-                | DealFault::ZeroAmount { line }
-                | DealFault::TooMany { line }
-                | DealFault::SumTooLarge { line },
-                0,
-            ) => Some(Field {
-                label: "line",
-                value: FieldValue::Number(u64::from(*line)),
-            }),
-            (DealFault::NotConnected { party }, 0) => Some(Field {
-                label: "party",
-                value: FieldValue::Number(u64::from(*party)),
-            }),
-            _ => None,
+            DealFault::BadLine { line } => at_line(level, 1, "BadLine", *line),
+            DealFault::PartyTwice { line } => at_line(level, 2, "PartyTwice", *line),
+            DealFault::UnknownParty { line } => at_line(level, 3, "UnknownParty", *line),
+            DealFault::SelfStep { line } => at_line(level, 4, "SelfStep", *line),
+            DealFault::ZeroAmount { line } => at_line(level, 5, "ZeroAmount", *line),
+            DealFault::TooMany { line } => at_line(level, 6, "TooMany", *line),
+            DealFault::SumTooLarge { line } => at_line(level, 7, "SumTooLarge", *line),
+            DealFault::NotConnected { party } => {
+                Telling::at(
+                    level,
+                    8,
+                    "NotConnected",
+                    &[number("party", u64::from(*party))],
+                )
+            }
+            DealFault::NoMemory => Telling::at(level, 9, "NoMemory", &[]),
         }
     }
 }
 
 impl fmt::Display for DealFault {
     ghost use Rattle.std.specs.Prelude.{Some};
-    ghost use Rattle.dh_base.specs.Refusals.{told_text};
+    ghost use Rattle.dh_base.specs.Refusals.{refusal_text};
     ghost use Rattle.deal_core.specs.DealFaults.{deal_fault_told};
 
-    ghost output = { λ fault. Some (told_text (deal_fault_told fault)) };
+    ghost output = { λ fault. Some (refusal_text (deal_fault_told fault)) };
 
     fn fmt<W: fmt::Write>(&self, f: &mut fmt::Formatter<W>) -> fmt::Result {
         write_refusal(self, f)

@@ -168,10 +168,12 @@ fn a_deal_is_its_text(rt: HostRuntime) -> Result<(), Fail> {
 }
 
 #[test]
-fn a_fault_tells_its_field(rt: HostRuntime) {
-    let fault = DealFault::NotConnected { party: 2 };
-    assert_eq!(rt; fault.number(), 8);
-    assert_eq!(rt; fault.name(), "NotConnected");
-    assert!(rt; fault.field(0).is_some());
-    assert!(rt; fault.field(1).is_none());
+fn a_fault_tells_its_field(rt: HostRuntime) -> Result<(), Fail> {
+    let line = DealFault::TooMany { line: 19 };
+    let party = DealFault::NotConnected { party: 2 };
+    let text = format!(in rt.alloc(); "{line}, {party}")?;
+    assert_eq!(rt; text.as_str(), "6 TooMany 19, 8 NotConnected 2");
+    assert!(rt; line.telling(0).is_some());
+    assert!(rt; line.telling(1).is_none());
+    Ok(())
 }

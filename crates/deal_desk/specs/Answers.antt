@@ -1,6 +1,6 @@
 -- What a command answers to an input: how it ends, and the text that it writes.
 use Rattle.std.specs.Prelude.{ℕ, ◌≡◌, ◌≤◌, ◌<◌, true, false, List, [], ◌∷◌, ◌++◌, length, Ok, Err, codes}
-use Rattle.dh_base.specs.Refusals.{told_text}
+use Rattle.dh_base.specs.Refusals.{refusal_text}
 use Rattle.deal_core.specs.Deals.{DealTold}
 use Rattle.deal_core.specs.DealFaults.{deal_fault_told}
 use Rattle.deal_core.specs.Reading.{IsTextOf, IsFaultOf}
@@ -23,7 +23,7 @@ refused_line line rule = refused_text line rule ++ 10 ∷ []
 
 -- the line that tells for which fault an input is no deal's text
 abbrev pub refused_deal_line : DealFault → List ℕ
-refused_deal_line fault = codes "refused " ++ told_text (deal_fault_told fault) ++ 10 ∷ []
+refused_deal_line fault = codes "refused " ++ refusal_text (deal_fault_told fault) ++ 10 ∷ []
 
 -- what can't be
 abbrev pub Never : Type 0

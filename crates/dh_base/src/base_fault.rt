@@ -1,6 +1,6 @@
 //! What is wrong with bytes that should be a value of this crate.
 
-use crate::refusal::{Field, FieldValue, Refusal, write_refusal};
+use crate::refusal::{Refusal, Telling, number, write_refusal};
 use std::fmt;
 
 /// What is wrong with bytes that should be a value of this crate.
@@ -14,43 +14,28 @@ pub enum BaseFault {
 }
 
 impl Refusal for BaseFault {
-    ghost use Rattle.dh_base.specs.BaseFaults.{base_fault_told, few_base_fields};
+    ghost use Rattle.dh_base.specs.BaseFaults.{base_fault_told};
 
     ghost told = { base_fault_told };
 
-    ghost few = { few_base_fields };
-
-    fn number(&self) -> u16 {
+    fn telling(&self, level: usize) -> Option<Telling> {
         match self {
-            BaseFault::Short { .. } => 1,
-            BaseFault::BadName { .. } => 2,
-        }
-    }
-
-    fn name(&self) -> &'static str {
-        match self {
-            BaseFault::Short { .. } => "Short",
-            BaseFault::BadName { .. } => "BadName",
-        }
-    }
-
-    fn field(&self, place: usize) -> Option<Field> {
-        match (self, place) {
-            (BaseFault::Short { at } | BaseFault::BadName { at }, 0) => Some(Field {
-                label: "at",
-                value: FieldValue::Number(u64::from(*at)),
-            }),
-            _ => None,
+            BaseFault::Short { at } => {
+                Telling::at(level, 1, "Short", &[number("at", u64::from(*at))])
+            }
+            BaseFault::BadName { at } => {
+                Telling::at(level, 2, "BadName", &[number("at", u64::from(*at))])
+            }
         }
     }
 }
 
 impl fmt::Display for BaseFault {
     ghost use Rattle.std.specs.Prelude.{Some};
-    ghost use Rattle.dh_base.specs.Refusals.{told_text};
+    ghost use Rattle.dh_base.specs.Refusals.{refusal_text};
     ghost use Rattle.dh_base.specs.BaseFaults.{base_fault_told};
 
-    ghost output = { λ fault. Some (told_text (base_fault_told fault)) };
+    ghost output = { λ fault. Some (refusal_text (base_fault_told fault)) };
 
     fn fmt<W: fmt::Write>(&self, f: &mut fmt::Formatter<W>) -> fmt::Result {
         write_refusal(self, f)

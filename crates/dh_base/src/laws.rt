@@ -1,8 +1,10 @@
 //! Laws of the fields of byte texts: what is put stands where the text ended before, and a field that
-//! stands at a place is the one that is taken there, and no other is.
+//! stands at a place is the one that is taken there, and no other is. And a law of the texts of refusals.
 
-ghost use Rattle.std.specs.Prelude.{◌≡◌, ◌↔◌, ◌+◌, ◌++◌, ℕ, List, length, Ok, IsTrue};
+ghost use Rattle.std.specs.Prelude.{◌≡◌, ◌↔◌, ◌+◌, ◌≤◌, ◌∷◌, ◌++◌, ℕ, List, length, Ok, IsTrue};
 ghost use Rattle.std.specs.Int.{w8, w16, w32, w64};
+ghost use Rattle.std.specs.List.{flat_map};
+ghost use Rattle.dh_base.specs.Refusals.{Told, told_text, held_text, refusal_text};
 ghost use Rattle.dh_base.specs.Names.{is_name};
 ghost use Rattle.dh_base.specs.Fields.{AreBytes, StandsAt, TakenWhereItStands, bytes_at, name_field, name_at};
 
@@ -35,4 +37,10 @@ pub fn bytes_taken()
 pub fn names_taken()
     ensures { (bytes name : List ℕ) (at : ℕ) → AreBytes bytes →
         (name_at bytes at ≡ Ok name) ↔ (IsTrue (is_name name) × StandsAt (name_field name) bytes at) }
+{}
+
+/// A refusal that holds at most seven is printed whole.
+pub fn refusals_printed_whole()
+    ensures { (own : Told) (held : List Told) → length held ≤ 7 →
+        refusal_text (own ∷ held) ≡ told_text own ++ flat_map held_text held }
 {}

@@ -38,7 +38,7 @@ pub use name::Name;
 pub use next::{next_id, next_name, next_text, next_u8, next_u16, next_u32, next_u64};
 pub use outcome::Outcome;
 pub use put::{put_id, put_name, put_u8, put_u16, put_u32, put_u64};
-pub use refusal::{Field, FieldValue, Refusal};
+pub use refusal::{Field, FieldValue, Refusal, Telling};
 pub use sink::Sink;
 pub use source::Source;
 pub use standard::{ReaderSource, WriterSink};

@@ -1,5 +1,7 @@
 use super::*;
+use crate::refusal::{called, entry, write_refusal};
 use std::alloc::{AllocError, Global};
+use std::fmt;
 use std::test::Fail;
 
 fn name(text: &str) -> Result<Name, BaseFault> {
@@ -39,9 +41,68 @@ fn values_are_printed(rt: HostRuntime) -> Result<(), Fail> {
         text.as_str(),
         "03000000000000000000000000000000000000000000000000000000000000fe abort 2 BadName 5"
     );
-    assert_eq!(rt; fault.number(), 2);
-    assert_eq!(rt; fault.name(), "BadName");
-    assert!(rt; fault.field(1).is_none());
+    Ok(())
+}
+
+/// A refusal that holds one, in the way of those of the crates above.
+#[derive(Clone, Copy)]
+struct Outer {
+    held: BaseFault,
+    of: Name,
+}
+
+impl Refusal for Outer {
+    ghost use Rattle.std.specs.Prelude.{[], ◌∷◌, codes};
+    ghost use Rattle.dh_base.specs.Refusals.{told_of, field_of};
+    ghost use Rattle.dh_base.specs.BaseFaults.{base_fault_told};
+    ghost use Rattle.dh_base.specs.declared.refusal.FieldValue.TheVariants.{Called};
+
+    ghost told = { λ outer.
+        told_of 9 (codes "Outer") (field_of (codes "of") (Called outer.of) ∷ []) ∷ base_fault_told outer.held };
+
+    fn telling(&self, level: usize) -> Option<Telling> {
+        Telling::holding(level, 9, "Outer", &[called("of", self.of)], &self.held)
+    }
+}
+
+impl fmt::Display for Outer {
+    ghost use Rattle.std.specs.Prelude.{Some, [], ◌∷◌, codes};
+    ghost use Rattle.dh_base.specs.Refusals.{refusal_text, told_of, field_of};
+    ghost use Rattle.dh_base.specs.BaseFaults.{base_fault_told};
+    ghost use Rattle.dh_base.specs.declared.refusal.FieldValue.TheVariants.{Called};
+
+    ghost output = { λ outer. Some (refusal_text
+        (told_of 9 (codes "Outer") (field_of (codes "of") (Called outer.of) ∷ []) ∷ base_fault_told outer.held)) };
+
+    fn fmt<W: fmt::Write>(&self, f: &mut fmt::Formatter<W>) -> fmt::Result {
+        write_refusal(self, f)
+    }
+}
+
+#[test]
+fn a_held_refusal_stands_behind(rt: HostRuntime) -> Result<(), Fail> {
+    let outer = Outer {
+        held: BaseFault::Short { at: 7 },
+        of: name("carol")?,
+    };
+    let text = format!(in rt.alloc(); "{outer}")?;
+    assert_eq!(rt; text.as_str(), "9 Outer carol 1 Short 7");
+    assert!(rt; outer.telling(1).is_some());
+    assert!(rt; outer.telling(2).is_none());
+    Ok(())
+}
+
+#[test]
+fn records_of_logs_are_printed(rt: HostRuntime) -> Result<(), Fail> {
+    let deal = Id(ABC);
+    let start = entry("kept", None, 3, deal).value;
+    let vote = entry("kept", Some(Outcome::Commit), 2, deal).value;
+    let text = format!(in rt.alloc(); "{start}, {vote}")?;
+    assert_eq!(rt;
+        text.as_str(),
+        "start 3 ba7816bf8f01cfea414140de5dae2223b00361a396177a9cb410ff61f20015ad, \
+         commit 2 ba7816bf8f01cfea414140de5dae2223b00361a396177a9cb410ff61f20015ad"
+    );
     Ok(())
 }
 

@@ -1,7 +1,7 @@
 //! What a book refuses.
 
-use dh_base::refusal::write_refusal;
-use dh_base::{Field, FieldValue, Id, Outcome, Refusal};
+use dh_base::refusal::{ending, hash, number, write_refusal};
+use dh_base::{Id, Outcome, Refusal, Telling};
 use std::alloc::{AllocError, AllocFailed};
 use std::fmt;
 
@@ -47,65 +47,40 @@ impl<T: Drop> From<AllocFailed<T>> for BookFault {
 }
 
 impl Refusal for BookFault {
-    ghost use Rattle.escrow_book.specs.BookFaults.{book_fault_told, few_book_fields};
+    ghost use Rattle.escrow_book.specs.BookFaults.{book_fault_told};
 
     ghost told = { book_fault_told };
 
-    ghost few = { few_book_fields };
-
-    fn number(&self) -> u16 {
+    fn telling(&self, level: usize) -> Option<Telling> {
         match self {
-            BookFault::UnknownDeal => 1,
-            BookFault::NotAParty { .. } => 2,
-            BookFault::DealSettled { .. } => 3,
-            BookFault::WrongTurn { .. } => 4,
-            BookFault::ZeroOrSelf => 5,
-            BookFault::Short { .. } => 6,
-            BookFault::NoMemory => 7,
-        }
-    }
-
-    fn name(&self) -> &'static str {
-        match self {
-            BookFault::UnknownDeal => "UnknownDeal",
-            BookFault::NotAParty { .. } => "NotAParty",
-            BookFault::DealSettled { .. } => "DealSettled",
-            BookFault::WrongTurn { .. } => "WrongTurn",
-            BookFault::ZeroOrSelf => "ZeroOrSelf",
-            BookFault::Short { .. } => "Short",
-            BookFault::NoMemory => "NoMemory",
-        }
-    }
-
-    fn field(&self, place: usize) -> Option<Field> {
-        match (self, place) {
-            (BookFault::NotAParty { account }, 0) => Some(Field {
-                label: "account",
-                value: FieldValue::Hash(*account),
-            }),
-            (BookFault::DealSettled { outcome }, 0) => Some(Field {
-                label: "outcome",
-                value: FieldValue::Ending(*outcome),
-            }),
-            (BookFault::WrongTurn { expected }, 0) => Some(Field {
-                label: "expected",
-                value: FieldValue::Number(u64::from(*expected)),
-            }),
-            (BookFault::Short { held }, 0) => Some(Field {
-                label: "held",
-                value: FieldValue::Number(*held),
-            }),
-            _ => None,
+            BookFault::UnknownDeal => Telling::at(level, 1, "UnknownDeal", &[]),
+            BookFault::NotAParty { account } => {
+                Telling::at(level, 2, "NotAParty", &[hash("account", *account)])
+            }
+            BookFault::DealSettled { outcome } => {
+                Telling::at(level, 3, "DealSettled", &[ending("outcome", *outcome)])
+            }
+            BookFault::WrongTurn { expected } => {
+                Telling::at(
+                    level,
+                    4,
+                    "WrongTurn",
+                    &[number("expected", u64::from(*expected))],
+                )
+            }
+            BookFault::ZeroOrSelf => Telling::at(level, 5, "ZeroOrSelf", &[]),
+            BookFault::Short { held } => Telling::at(level, 6, "Short", &[number("held", *held)]),
+            BookFault::NoMemory => Telling::at(level, 7, "NoMemory", &[]),
         }
     }
 }
 
 impl fmt::Display for BookFault {
     ghost use Rattle.std.specs.Prelude.{Some};
-    ghost use Rattle.dh_base.specs.Refusals.{told_text};
+    ghost use Rattle.dh_base.specs.Refusals.{refusal_text};
     ghost use Rattle.escrow_book.specs.BookFaults.{book_fault_told};
 
-    ghost output = { λ fault. Some (told_text (book_fault_told fault)) };
+    ghost output = { λ fault. Some (refusal_text (book_fault_told fault)) };
 
     fn fmt<W: fmt::Write>(&self, f: &mut fmt::Formatter<W>) -> fmt::Result {
         write_refusal(self, f)

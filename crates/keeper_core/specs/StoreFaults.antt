@@ -1,9 +1,8 @@
 -- What a fault of kept rows tells, and why it comes.
-use Rattle.std.specs.Prelude.{ℕ, ◌≡◌, List, [], ◌∷◌, codes, length, ◌≤◌, Option, Some, IfSome}
+use Rattle.std.specs.Prelude.{ℕ, ◌≡◌, List, [], ◌∷◌, codes, Option, Some, IfSome}
 use Rattle.std.specs.FinMap.{get}
-use Rattle.std.proofs.Common.{lit≤}
 use Rattle.sha2.specs.Sha256.{sha256}
-use Rattle.dh_base.specs.Refusals.{Told}
+use Rattle.dh_base.specs.Refusals.{Told, told_of, field_of}
 use Rattle.dh_base.specs.declared.id.Id.{Id}
 use Rattle.dh_base.specs.declared.refusal.FieldValue.TheVariants.{Number, Hash}
 use Rattle.keeper_core.specs.declared.store_fault.StoreFault.{StoreFault}
@@ -13,15 +12,12 @@ use Rattle.keeper_core.specs.declared.keep_fault.KeepFault.TheVariants.{Failed, 
 use Rattle.keeper_core.specs.declared.row.Row.{Row}
 use Rattle.keeper_core.specs.Tables.{Tables}
 
-abbrev pub store_fault_told : StoreFault → Told
-store_fault_told Keeper = record { number = 1; name = codes "Keeper"; fields = [] }
-store_fault_told (BadRow tab key) = record { number = 2; name = codes "BadRow"; fields = record { label = codes "tab"; value = Number tab } ∷ record { label = codes "key"; value = Hash key } ∷ [] }
-store_fault_told NoMemory = record { number = 3; name = codes "NoMemory"; fields = [] }
-
-pub few_store_fields : (fault : StoreFault) → length (store_fault_told fault).fields ≤ 4
-few_store_fields Keeper = lit≤ tt
-few_store_fields (BadRow tab key) = lit≤ tt
-few_store_fields NoMemory = lit≤ tt
+abbrev pub store_fault_told : StoreFault → List Told
+store_fault_told Keeper = told_of 1 (codes "Keeper") [] ∷ []
+store_fault_told (BadRow tab key) =
+    told_of 2 (codes "BadRow")
+    (field_of (codes "tab") (Number tab) ∷ field_of (codes "key") (Hash key) ∷ []) ∷ []
+store_fault_told NoMemory = told_of 3 (codes "NoMemory") [] ∷ []
 
 -- the fault that names a row by its table and the digest of its key
 abbrev pub bad_row_of : ℕ → List ℕ → StoreFault

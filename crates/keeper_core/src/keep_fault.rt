@@ -1,7 +1,6 @@
 //! What a call of a keeper refuses.
 
 use dh_base::{Failed, NoMemory};
-use std::alloc::{AllocError, AllocFailed};
 use std::fmt;
 
 /// Why a keeper's call has no answer.
@@ -31,28 +30,6 @@ impl From<NoMemory> for KeepFault {
     ghost from_gives = { λ _ fault. fault ≡ NoMemory };
 
     fn from(_error: NoMemory) -> KeepFault {
-        KeepFault::NoMemory
-    }
-}
-
-impl From<AllocError> for KeepFault {
-    ghost use Rattle.std.specs.Prelude.{◌≡◌};
-    ghost use Rattle.keeper_core.specs.declared.keep_fault.KeepFault.TheVariants.{NoMemory};
-
-    ghost from_gives = { λ _ fault. fault ≡ NoMemory };
-
-    fn from(_error: AllocError) -> KeepFault {
-        KeepFault::NoMemory
-    }
-}
-
-impl<T: Drop> From<AllocFailed<T>> for KeepFault {
-    ghost use Rattle.std.specs.Prelude.{◌≡◌};
-    ghost use Rattle.keeper_core.specs.declared.keep_fault.KeepFault.TheVariants.{NoMemory};
-
-    ghost from_gives = { λ _ fault. fault ≡ NoMemory };
-
-    fn from(_error: AllocFailed<T>) -> KeepFault {
         KeepFault::NoMemory
     }
 }

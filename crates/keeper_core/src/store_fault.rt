@@ -3,9 +3,9 @@
 ghost use Rattle.std.specs.Prelude.{◌≡◌};
 
 use crate::keep_fault::KeepFault;
-use dh_base::refusal::write_refusal;
-use dh_base::{Field, FieldValue, Id, NoMemory, Refusal, digest};
-use std::alloc::{AllocError, AllocFailed};
+use dh_base::refusal::{hash, number, write_refusal};
+use dh_base::{Id, NoMemory, Refusal, Telling, digest};
+use std::alloc::AllocFailed;
 use std::fmt;
 
 /// What a call refuses that reads and commits rows of a keeper.
@@ -58,17 +58,6 @@ impl From<NoMemory> for StoreFault {
     }
 }
 
-impl From<AllocError> for StoreFault {
-    ghost use Rattle.std.specs.Prelude.{◌≡◌};
-    ghost use Rattle.keeper_core.specs.declared.store_fault.StoreFault.TheVariants.{NoMemory};
-
-    ghost from_gives = { λ _ fault. fault ≡ NoMemory };
-
-    fn from(_error: AllocError) -> StoreFault {
-        StoreFault::NoMemory
-    }
-}
-
 impl<T: Drop> From<AllocFailed<T>> for StoreFault {
     ghost use Rattle.std.specs.Prelude.{◌≡◌};
     ghost use Rattle.keeper_core.specs.declared.store_fault.StoreFault.TheVariants.{NoMemory};
@@ -81,49 +70,30 @@ impl<T: Drop> From<AllocFailed<T>> for StoreFault {
 }
 
 impl Refusal for StoreFault {
-    ghost use Rattle.keeper_core.specs.StoreFaults.{store_fault_told, few_store_fields};
+    ghost use Rattle.keeper_core.specs.StoreFaults.{store_fault_told};
 
     ghost told = { store_fault_told };
 
-    ghost few = { few_store_fields };
-
-    fn number(&self) -> u16 {
+    fn telling(&self, level: usize) -> Option<Telling> {
         match self {
-            StoreFault::Keeper => 1,
-            StoreFault::BadRow { .. } => 2,
-            StoreFault::NoMemory => 3,
-        }
-    }
-
-    fn name(&self) -> &'static str {
-        match self {
-            StoreFault::Keeper => "Keeper",
-            StoreFault::BadRow { .. } => "BadRow",
-            StoreFault::NoMemory => "NoMemory",
-        }
-    }
-
-    fn field(&self, place: usize) -> Option<Field> {
-        match (self, place) {
-            (StoreFault::BadRow { tab, .. }, 0) => Some(Field {
-                label: "tab",
-                value: FieldValue::Number(u64::from(*tab)),
-            }),
-            (StoreFault::BadRow { key, .. }, 1) => Some(Field {
-                label: "key",
-                value: FieldValue::Hash(*key),
-            }),
-            _ => None,
+            StoreFault::Keeper => Telling::at(level, 1, "Keeper", &[]),
+            StoreFault::BadRow { tab, key } => Telling::at(
+                level,
+                2,
+                "BadRow",
+                &[number("tab", u64::from(*tab)), hash("key", *key)],
+            ),
+            StoreFault::NoMemory => Telling::at(level, 3, "NoMemory", &[]),
         }
     }
 }
 
 impl fmt::Display for StoreFault {
     ghost use Rattle.std.specs.Prelude.{Some};
-    ghost use Rattle.dh_base.specs.Refusals.{told_text};
+    ghost use Rattle.dh_base.specs.Refusals.{refusal_text};
     ghost use Rattle.keeper_core.specs.StoreFaults.{store_fault_told};
 
-    ghost output = { λ fault. Some (told_text (store_fault_told fault)) };
+    ghost output = { λ fault. Some (refusal_text (store_fault_told fault)) };
 
     fn fmt<W: fmt::Write>(&self, f: &mut fmt::Formatter<W>) -> fmt::Result {
         write_refusal(self, f)

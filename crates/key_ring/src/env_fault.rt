@@ -1,11 +1,7 @@
 //! Why bytes are no envelope, or an envelope says nothing.
 
-ghost use Rattle.std.specs.Prelude.{◌≡◌, Some};
-ghost use Rattle.dh_base.specs.Refusals.{option_field_told};
-ghost use Rattle.dh_base.specs.declared.refusal.FieldValue.TheVariants.{Number};
-
-use dh_base::refusal::write_refusal;
-use dh_base::{BaseFault, Field, FieldValue, NoMemory, Refusal};
+use dh_base::refusal::{number, write_refusal};
+use dh_base::{BaseFault, NoMemory, Refusal, Telling};
 use std::alloc::AllocError;
 use std::fmt;
 
@@ -59,59 +55,37 @@ impl From<AllocError> for EnvFault {
     }
 }
 
-/// A field that holds a number.
-fn numbered(label: &'static str, number: u32) -> Option<Field>
-    ensures { option_field_told result ≡ Some (record { label = label.now; value = Number number }) }
-{
-    Some(Field {
-        label,
-        value: FieldValue::Number(u64::from(number)),
-    })
-}
-
 impl Refusal for EnvFault {
-    ghost use Rattle.key_ring.specs.EnvFaults.{env_fault_told, few_env_fields};
+    ghost use Rattle.key_ring.specs.EnvFaults.{env_fault_told};
 
     ghost told = { env_fault_told };
 
-    ghost few = { few_env_fields };
-
-    fn number(&self) -> u16 {
+    fn telling(&self, level: usize) -> Option<Telling> {
         match self {
-            EnvFault::BadForm { .. } => 1,
-            EnvFault::BadRing { .. } => 2,
-            EnvFault::KeyOutside { .. } => 3,
-            EnvFault::BadSignature => 4,
-            EnvFault::NoMemory => 5,
-        }
-    }
-
-    fn name(&self) -> &'static str {
-        match self {
-            EnvFault::BadForm { .. } => "BadForm",
-            EnvFault::BadRing { .. } => "BadRing",
-            EnvFault::KeyOutside { .. } => "KeyOutside",
-            EnvFault::BadSignature => "BadSignature",
-            EnvFault::NoMemory => "NoMemory",
-        }
-    }
-
-    fn field(&self, place: usize) -> Option<Field> {
-        match (self, place) {
-            (EnvFault::BadForm { at } | EnvFault::BadRing { at }, 0) => numbered("at", *at),
-            (EnvFault::KeyOutside { q, .. }, 0) => numbered("q", *q),
-            (EnvFault::KeyOutside { n, .. }, 1) => numbered("n", u32::from(*n)),
-            _ => None,
+            EnvFault::BadForm { at } => {
+                Telling::at(level, 1, "BadForm", &[number("at", u64::from(*at))])
+            }
+            EnvFault::BadRing { at } => {
+                Telling::at(level, 2, "BadRing", &[number("at", u64::from(*at))])
+            }
+            EnvFault::KeyOutside { q, n } => Telling::at(
+                level,
+                3,
+                "KeyOutside",
+                &[number("q", u64::from(*q)), number("n", u64::from(*n))],
+            ),
+            EnvFault::BadSignature => Telling::at(level, 4, "BadSignature", &[]),
+            EnvFault::NoMemory => Telling::at(level, 5, "NoMemory", &[]),
         }
     }
 }
 
 impl fmt::Display for EnvFault {
     ghost use Rattle.std.specs.Prelude.{Some};
-    ghost use Rattle.dh_base.specs.Refusals.{told_text};
+    ghost use Rattle.dh_base.specs.Refusals.{refusal_text};
     ghost use Rattle.key_ring.specs.EnvFaults.{env_fault_told};
 
-    ghost output = { λ fault. Some (told_text (env_fault_told fault)) };
+    ghost output = { λ fault. Some (refusal_text (env_fault_told fault)) };
 
     fn fmt<W: fmt::Write>(&self, f: &mut fmt::Formatter<W>) -> fmt::Result {
         write_refusal(self, f)

@@ -1,7 +1,7 @@
 //! Why a signer gives no envelope.
 
-use dh_base::refusal::write_refusal;
-use dh_base::{Field, FieldValue, NoMemory, Refusal};
+use dh_base::refusal::{number, write_refusal};
+use dh_base::{NoMemory, Refusal, Telling};
 use keeper_core::{KeepFault, StoreFault};
 use std::alloc::{AllocError, AllocFailed};
 use std::fmt;
@@ -45,8 +45,8 @@ impl From<NoMemory> for SignFault {
 
     ghost from_gives = { λ _ fault. fault ≡ Store NoMemory };
 
-    fn from(error: NoMemory) -> SignFault {
-        SignFault::from(StoreFault::from(error))
+    fn from(_error: NoMemory) -> SignFault {
+        SignFault::from(StoreFault::NoMemory)
     }
 }
 
@@ -57,8 +57,8 @@ impl From<AllocError> for SignFault {
 
     ghost from_gives = { λ _ fault. fault ≡ Store NoMemory };
 
-    fn from(error: AllocError) -> SignFault {
-        SignFault::from(StoreFault::from(error))
+    fn from(_error: AllocError) -> SignFault {
+        SignFault::from(StoreFault::NoMemory)
     }
 }
 
@@ -69,59 +69,40 @@ impl<T: Drop> From<AllocFailed<T>> for SignFault {
 
     ghost from_gives = { λ _ fault. fault ≡ Store NoMemory };
 
-    fn from(error: AllocFailed<T>) -> SignFault {
-        SignFault::from(StoreFault::from(error))
+    fn from(_error: AllocFailed<T>) -> SignFault {
+        SignFault::from(StoreFault::NoMemory)
     }
 }
 
 impl Refusal for SignFault {
-    ghost use Rattle.key_ring.specs.SignFaults.{sign_fault_told, few_sign_fields};
+    ghost use Rattle.key_ring.specs.SignFaults.{sign_fault_told};
 
     ghost told = { sign_fault_told };
 
-    ghost few = { few_sign_fields };
-
-    fn number(&self) -> u16 {
+    fn telling(&self, level: usize) -> Option<Telling> {
         match self {
-            SignFault::KeysSpent { .. } => 1,
-            SignFault::Store { .. } => 2,
-        }
-    }
-
-    fn name(&self) -> &'static str {
-        match self {
-            SignFault::KeysSpent { .. } => "KeysSpent",
-            SignFault::Store { .. } => "Store",
-        }
-    }
-
-    fn field(&self, place: usize) -> Option<Field> {
-        match (self, place) {
-            (SignFault::KeysSpent { used, .. }, 0) => Some(Field {
-                label: "used",
-                value: FieldValue::Number(u64::from(*used)),
-            }),
-            (SignFault::KeysSpent { size, .. }, 1) => Some(Field {
-                label: "size",
-                value: FieldValue::Number(u64::from(*size)),
-            }),
-            _ => None,
+            SignFault::KeysSpent { used, size } => Telling::at(
+                level,
+                1,
+                "KeysSpent",
+                &[
+                    number("used", u64::from(*used)),
+                    number("size", u64::from(*size)),
+                ],
+            ),
+            SignFault::Store { fault } => Telling::holding(level, 2, "Store", &[], fault),
         }
     }
 }
 
-/// The fault that a refusal holds stands behind it, in the same form.
 impl fmt::Display for SignFault {
     ghost use Rattle.std.specs.Prelude.{Some};
-    ghost use Rattle.key_ring.specs.SignFaults.{sign_fault_text};
+    ghost use Rattle.dh_base.specs.Refusals.{refusal_text};
+    ghost use Rattle.key_ring.specs.SignFaults.{sign_fault_told};
 
-    ghost output = { λ fault. Some (sign_fault_text fault) };
+    ghost output = { λ fault. Some (refusal_text (sign_fault_told fault)) };
 
     fn fmt<W: fmt::Write>(&self, f: &mut fmt::Formatter<W>) -> fmt::Result {
-        write_refusal(self, f)?;
-        match self {
-            SignFault::KeysSpent { .. } => Ok(()),
-            SignFault::Store { fault } => write!(f, " {fault}"),
-        }
+        write_refusal(self, f)
     }
 }

@@ -1,7 +1,7 @@
 //! Why a plain ledger refuses an act.
 
-use dh_base::refusal::write_refusal;
-use dh_base::{Field, FieldValue, Name, Outcome, Refusal};
+use dh_base::refusal::{called, ending, number, write_refusal};
+use dh_base::{Name, Outcome, Refusal, Telling};
 use std::fmt;
 
 /// Why a plain ledger refuses an act. The numbers are those of a ledger's refusals.
@@ -22,63 +22,39 @@ pub enum ActRefusal {
 }
 
 impl Refusal for ActRefusal {
-    ghost use Rattle.plain_core.specs.Replies.{act_refusal_told, few_act_fields};
+    ghost use Rattle.plain_core.specs.Replies.{act_refusal_told};
 
     ghost told = { act_refusal_told };
 
-    ghost few = { few_act_fields };
-
-    fn number(&self) -> u16 {
+    fn telling(&self, level: usize) -> Option<Telling> {
         match self {
-            ActRefusal::UnknownDeal => 7,
-            ActRefusal::NotAParty { .. } => 8,
-            ActRefusal::DealSettled { .. } => 10,
-            ActRefusal::WrongTurn { .. } => 11,
-            ActRefusal::ZeroOrSelf => 12,
-            ActRefusal::Short { .. } => 13,
-        }
-    }
-
-    fn name(&self) -> &'static str {
-        match self {
-            ActRefusal::UnknownDeal => "UnknownDeal",
-            ActRefusal::NotAParty { .. } => "NotAParty",
-            ActRefusal::DealSettled { .. } => "DealSettled",
-            ActRefusal::WrongTurn { .. } => "WrongTurn",
-            ActRefusal::ZeroOrSelf => "ZeroOrSelf",
-            ActRefusal::Short { .. } => "Short",
-        }
-    }
-
-    fn field(&self, place: usize) -> Option<Field> {
-        match (self, place) {
-            (ActRefusal::NotAParty { account }, 0) => Some(Field {
-                label: "account",
-                value: FieldValue::Called(*account),
-            }),
-            (ActRefusal::DealSettled { outcome }, 0) => Some(Field {
-                label: "outcome",
-                value: FieldValue::Ending(*outcome),
-            }),
-            (ActRefusal::WrongTurn { expected }, 0) => Some(Field {
-                label: "expected",
-                value: FieldValue::Number(u64::from(*expected)),
-            }),
-            (ActRefusal::Short { held }, 0) => Some(Field {
-                label: "held",
-                value: FieldValue::Number(*held),
-            }),
-            _ => None,
+            ActRefusal::UnknownDeal => Telling::at(level, 7, "UnknownDeal", &[]),
+            ActRefusal::NotAParty { account } => {
+                Telling::at(level, 8, "NotAParty", &[called("account", *account)])
+            }
+            ActRefusal::DealSettled { outcome } => {
+                Telling::at(level, 10, "DealSettled", &[ending("outcome", *outcome)])
+            }
+            ActRefusal::WrongTurn { expected } => {
+                Telling::at(
+                    level,
+                    11,
+                    "WrongTurn",
+                    &[number("expected", u64::from(*expected))],
+                )
+            }
+            ActRefusal::ZeroOrSelf => Telling::at(level, 12, "ZeroOrSelf", &[]),
+            ActRefusal::Short { held } => Telling::at(level, 13, "Short", &[number("held", *held)]),
         }
     }
 }
 
 impl fmt::Display for ActRefusal {
     ghost use Rattle.std.specs.Prelude.{Some};
-    ghost use Rattle.dh_base.specs.Refusals.{told_text};
+    ghost use Rattle.dh_base.specs.Refusals.{refusal_text};
     ghost use Rattle.plain_core.specs.Replies.{act_refusal_told};
 
-    ghost output = { λ refusal. Some (told_text (act_refusal_told refusal)) };
+    ghost output = { λ refusal. Some (refusal_text (act_refusal_told refusal)) };
 
     fn fmt<W: fmt::Write>(&self, f: &mut fmt::Formatter<W>) -> fmt::Result {
         write_refusal(self, f)

@@ -1,7 +1,7 @@
 //! Why a plain ledger refuses a claim.
 
-use dh_base::refusal::write_refusal;
-use dh_base::{Field, FieldValue, Refusal};
+use dh_base::refusal::{number, write_refusal};
+use dh_base::{Refusal, Telling};
 use std::fmt;
 
 /// Why a plain ledger refuses a claim. The numbers are those of a ledger's refusals of claims.
@@ -14,43 +14,26 @@ pub enum ClaimRefusal {
 }
 
 impl Refusal for ClaimRefusal {
-    ghost use Rattle.plain_core.specs.Replies.{claim_refusal_told, few_claim_fields};
+    ghost use Rattle.plain_core.specs.Replies.{claim_refusal_told};
 
     ghost told = { claim_refusal_told };
 
-    ghost few = { few_claim_fields };
-
-    fn number(&self) -> u16 {
+    fn telling(&self, level: usize) -> Option<Telling> {
         match self {
-            ClaimRefusal::UnknownDeal => 1,
-            ClaimRefusal::Undecided { .. } => 3,
-        }
-    }
-
-    fn name(&self) -> &'static str {
-        match self {
-            ClaimRefusal::UnknownDeal => "UnknownDeal",
-            ClaimRefusal::Undecided { .. } => "Undecided",
-        }
-    }
-
-    fn field(&self, place: usize) -> Option<Field> {
-        match (self, place) {
-            (ClaimRefusal::Undecided { len }, 0) => Some(Field {
-                label: "len",
-                value: FieldValue::Number(u64::from(*len)),
-            }),
-            _ => None,
+            ClaimRefusal::UnknownDeal => Telling::at(level, 1, "UnknownDeal", &[]),
+            ClaimRefusal::Undecided { len } => {
+                Telling::at(level, 3, "Undecided", &[number("len", u64::from(*len))])
+            }
         }
     }
 }
 
 impl fmt::Display for ClaimRefusal {
     ghost use Rattle.std.specs.Prelude.{Some};
-    ghost use Rattle.dh_base.specs.Refusals.{told_text};
+    ghost use Rattle.dh_base.specs.Refusals.{refusal_text};
     ghost use Rattle.plain_core.specs.Replies.{claim_refusal_told};
 
-    ghost output = { λ refusal. Some (told_text (claim_refusal_told refusal)) };
+    ghost output = { λ refusal. Some (refusal_text (claim_refusal_told refusal)) };
 
     fn fmt<W: fmt::Write>(&self, f: &mut fmt::Formatter<W>) -> fmt::Result {
         write_refusal(self, f)

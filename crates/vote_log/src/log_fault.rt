@@ -1,11 +1,7 @@
 //! The refusals of a log.
 
-ghost use Rattle.std.specs.Prelude.{◌≡◌, Some};
-ghost use Rattle.dh_base.specs.Refusals.{option_field_told};
-ghost use Rattle.dh_base.specs.declared.refusal.FieldValue.TheVariants.{Number};
-
-use dh_base::refusal::write_refusal;
-use dh_base::{Field, FieldValue, Id, Outcome, Refusal};
+use dh_base::refusal::{ending, hash, number, write_refusal};
+use dh_base::{Id, Outcome, Refusal, Telling};
 use std::alloc::AllocFailed;
 use std::fmt;
 
@@ -39,73 +35,49 @@ impl<T: Drop> From<AllocFailed<T>> for LogFault {
     }
 }
 
-/// A field that holds a number.
-fn numbered(label: &'static str, number: u32) -> Option<Field>
-    ensures { option_field_told result ≡ Some (record { label = label.now; value = Number number }) }
-{
-    Some(Field {
-        label,
-        value: FieldValue::Number(u64::from(number)),
-    })
-}
-
 impl Refusal for LogFault {
-    ghost use Rattle.vote_log.specs.LogFaults.{log_fault_told, few_log_fields};
+    ghost use Rattle.vote_log.specs.LogFaults.{log_fault_told};
 
     ghost told = { log_fault_told };
 
-    ghost few = { few_log_fields };
-
-    fn number(&self) -> u16 {
+    fn telling(&self, level: usize) -> Option<Telling> {
         match self {
-            LogFault::NotAParty { .. } => 5,
-            LogFault::StartedAlready { .. } => 6,
-            LogFault::LogFull { .. } => 7,
-            LogFault::NotStarted => 8,
-            LogFault::Decided { .. } => 9,
-            LogFault::VotedAlready { .. } => 10,
-            LogFault::NoMemory => 11,
-        }
-    }
-
-    fn name(&self) -> &'static str {
-        match self {
-            LogFault::NotAParty { .. } => "NotAParty",
-            LogFault::StartedAlready { .. } => "StartedAlready",
-            LogFault::LogFull { .. } => "LogFull",
-            LogFault::NotStarted => "NotStarted",
-            LogFault::Decided { .. } => "Decided",
-            LogFault::VotedAlready { .. } => "VotedAlready",
-            LogFault::NoMemory => "NoMemory",
-        }
-    }
-
-    fn field(&self, place: usize) -> Option<Field> {
-        match (self, place) {
-            (LogFault::NotAParty { account }, 0) => Some(Field {
-                label: "account",
-                value: FieldValue::Hash(*account),
-            }),
-            (LogFault::StartedAlready { at }, 0) => numbered("at", *at),
-            (LogFault::LogFull { len, .. }, 0) => numbered("len", *len),
-            (LogFault::LogFull { owed, .. }, 1) => numbered("owed", *owed),
-            (LogFault::Decided { at, .. }, 0) => numbered("at", *at),
-            (LogFault::Decided { outcome, .. }, 1) => Some(Field {
-                label: "outcome",
-                value: FieldValue::Ending(*outcome),
-            }),
-            (LogFault::VotedAlready { at }, 0) => numbered("at", *at),
-            _ => None,
+            LogFault::NotAParty { account } => {
+                Telling::at(level, 5, "NotAParty", &[hash("account", *account)])
+            }
+            LogFault::StartedAlready { at } => {
+                Telling::at(level, 6, "StartedAlready", &[number("at", u64::from(*at))])
+            }
+            LogFault::LogFull { len, owed } => Telling::at(
+                level,
+                7,
+                "LogFull",
+                &[
+                    number("len", u64::from(*len)),
+                    number("owed", u64::from(*owed)),
+                ],
+            ),
+            LogFault::NotStarted => Telling::at(level, 8, "NotStarted", &[]),
+            LogFault::Decided { at, outcome } => Telling::at(
+                level,
+                9,
+                "Decided",
+                &[number("at", u64::from(*at)), ending("outcome", *outcome)],
+            ),
+            LogFault::VotedAlready { at } => {
+                Telling::at(level, 10, "VotedAlready", &[number("at", u64::from(*at))])
+            }
+            LogFault::NoMemory => Telling::at(level, 11, "NoMemory", &[]),
         }
     }
 }
 
 impl fmt::Display for LogFault {
     ghost use Rattle.std.specs.Prelude.{Some};
-    ghost use Rattle.dh_base.specs.Refusals.{told_text};
+    ghost use Rattle.dh_base.specs.Refusals.{refusal_text};
     ghost use Rattle.vote_log.specs.LogFaults.{log_fault_told};
 
-    ghost output = { λ fault. Some (told_text (log_fault_told fault)) };
+    ghost output = { λ fault. Some (refusal_text (log_fault_told fault)) };
 
     fn fmt<W: fmt::Write>(&self, f: &mut fmt::Formatter<W>) -> fmt::Result {
         write_refusal(self, f)

@@ -152,7 +152,9 @@ fn refusals_of_signers_are_told(rt: HostRuntime) -> Result<(), Fail> {
         text.as_str(),
         "1 KeysSpent 2 3, 2 Store 1 Keeper, 2 Store 3 NoMemory"
     );
-    assert_eq!(rt; kept.number(), 2);
+    assert!(rt; kept.telling(1).is_some());
+    assert!(rt; kept.telling(2).is_none());
+    assert!(rt; spent.telling(1).is_none());
     Ok(())
 }
 
