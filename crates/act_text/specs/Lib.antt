@@ -1,3 +1,4 @@
 pub mod ActTexts
 pub mod ActReading
 pub mod StatementTexts
+pub mod ActFaults

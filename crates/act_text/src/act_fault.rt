@@ -1,7 +1,9 @@
 //! Why bytes are no act of an office.
 
-use dh_base::{BaseFault, NoMemory};
+use dh_base::refusal::{number, write_refusal};
+use dh_base::{BaseFault, NoMemory, Refusal, Telling};
 use std::alloc::AllocError;
+use std::fmt;
 
 /// Why bytes are no act of an office.
 #[derive(Clone, Copy, Debug, PartialEq, Eq)]
@@ -51,5 +53,39 @@ impl From<AllocError> for ActFault {
 
     fn from(_error: AllocError) -> ActFault {
         ActFault::NoMemory
+    }
+}
+
+impl Refusal for ActFault {
+    ghost use Rattle.act_text.specs.ActFaults.{act_fault_told};
+
+    ghost told = { act_fault_told };
+
+    fn telling(&self, level: usize) -> Option<Telling> {
+        match self {
+            ActFault::BadTag => Telling::at(level, 1, "BadTag", &[]),
+            ActFault::Short { at } => {
+                Telling::at(level, 2, "Short", &[number("at", u64::from(*at))])
+            }
+            ActFault::BadField { at } => {
+                Telling::at(level, 3, "BadField", &[number("at", u64::from(*at))])
+            }
+            ActFault::Trailing { at } => {
+                Telling::at(level, 4, "Trailing", &[number("at", u64::from(*at))])
+            }
+            ActFault::NoMemory => Telling::at(level, 5, "NoMemory", &[]),
+        }
+    }
+}
+
+impl fmt::Display for ActFault {
+    ghost use Rattle.std.specs.Prelude.{Some};
+    ghost use Rattle.dh_base.specs.Refusals.{refusal_text};
+    ghost use Rattle.act_text.specs.ActFaults.{act_fault_told};
+
+    ghost output = { λ fault. Some (refusal_text (act_fault_told fault)) };
+
+    fn fmt<W: fmt::Write>(&self, f: &mut fmt::Formatter<W>) -> fmt::Result {
+        write_refusal(self, f)
     }
 }
