@@ -7,8 +7,9 @@ use Rattle.plain_script.specs.Reading.{Refused, ScriptTold, most_bytes, reading_
 use Rattle.plain_script.specs.declared.rule.ScriptRule.TheVariants.{TooLarge}
 use Rattle.plain_core.specs.Reports.{answered_report, report_behind, rehearsal_of}
 use Rattle.deal_desk.specs.Answers.{IsCleared, IsRehearsed, IsAnswer}
+use Rattle.dh_base.specs.Outside.{Seen}
 use Rattle.deal_desk.specs.Commands.{command_of}
-use Rattle.deal_desk.specs.Endings.{SourceSeen, SinkSeen, WroteAnswer, WroteAnswerFront, usage_text, Says, IsTold, IsCarriedOut, IsEnding}
+use Rattle.deal_desk.specs.Endings.{WroteAnswer, WroteAnswerFront, usage_text, Says, IsTold, IsCarriedOut, IsEnding}
 use Rattle.deal_desk.proofs.OneAnswer.{the_answer}
 use Rattle.deal_desk.specs.Inputs.{most_read, unread, WasRead, GaveFront}
 use Rattle.deal_desk.specs.declared.command.Command.{Command}
@@ -82,11 +83,11 @@ done_short Rehearse all text told = reported_short all text told
 
 -- ---- endings
 
-wrote_of_all : (command : Command) (all bytes : List ℕ) (ending : Ending) (before after : SinkSeen) → bytes ≡ take most_read all → WroteAnswer command bytes ending before after → WroteAnswer command all ending before after
+wrote_of_all : (command : Command) (all bytes : List ℕ) (ending : Ending) (before after : Seen) → bytes ≡ take most_read all → WroteAnswer command bytes ending before after → WroteAnswer command all ending before after
 wrote_of_all command all bytes ending before after read told =
     (told.0, the_answer command all ending told.0 (answer_of_all command all bytes ending told.0 read told.1.0), told.2)
 
-front_of_all : (command : Command) (all bytes : List ℕ) (before after : SinkSeen) → bytes ≡ take most_read all → WroteAnswerFront command bytes before after → WroteAnswerFront command all before after
+front_of_all : (command : Command) (all bytes : List ℕ) (before after : Seen) → bytes ≡ take most_read all → WroteAnswerFront command bytes before after → WroteAnswerFront command all before after
 front_of_all command all bytes before after read told =
     (told.0, told.1, the_answer command all told.0 told.1 (answer_of_all command all bytes told.0 told.1 read told.2.0), told.3)
 
@@ -97,11 +98,11 @@ whole_front : (left left_after : Option (List ℕ)) (bytes : List ℕ) → WasRe
 whole_front None left_after bytes read = tt
 whole_front (Some all) left_after bytes read = (most_read, omega arith, read.1)
 
-pub read_and_told : (command : Command) (ending : Ending) (input input_after : SourceSeen) (output output_after : SinkSeen) (bytes all_bytes : List ℕ) → all_bytes ≡ bytes → WasRead input.left bytes input_after.left → IsTold command ending all_bytes output output_after → IsCarriedOut command ending input input_after output output_after
+pub read_and_told : (command : Command) (ending : Ending) (input input_after : Seen) (output output_after : Seen) (bytes all_bytes : List ℕ) → all_bytes ≡ bytes → WasRead input.left bytes input_after.left → IsTold command ending all_bytes output output_after → IsCarriedOut command ending input input_after output output_after
 read_and_told command ending input input_after output output_after bytes all_bytes is read told =
     by ending input.left read (subst (λ (b : List ℕ). IsTold command ending b output output_after) is told)
   where
-    by : (e : Ending) (left : Option (List ℕ)) → WasRead left bytes input_after.left → IsTold command e bytes output output_after → IsCarriedOut command e (record { left = left; faults = input.faults }) input_after output output_after
+    by : (e : Ending) (left : Option (List ℕ)) → WasRead left bytes input_after.left → IsTold command e bytes output output_after → IsCarriedOut command e (record input { left = left }) input_after output output_after
     by Done None r t = tt
     by Done (Some all) r t =
         (r.1 ∙ none_unread all (done_short command all t.0 (answer_of_all command all bytes Done t.0 r.0 t.1.0)), wrote_of_all command all bytes Done output output_after r.0 t)
@@ -116,6 +117,6 @@ read_and_told command ending input input_after output output_after bytes all_byt
     by NoMemory left r t = (whole_front left input_after.left bytes r, t)
 
 -- other words have the usage line
-pub usage_told : (words : List (List ℕ)) (ending : Ending) (input : SourceSeen) (output output_after : SinkSeen) (text : List ℕ) → None ≡ command_of words → text ≡ usage_text → Says Usage ending output text output_after → IsEnding (command_of words) ending input input output output_after
+pub usage_told : (words : List (List ℕ)) (ending : Ending) (input : Seen) (output output_after : Seen) (text : List ℕ) → None ≡ command_of words → text ≡ usage_text → Says Usage ending output text output_after → IsEnding (command_of words) ending input input output output_after
 usage_told words ending input output output_after text other is says =
     subst (λ (command : Option Command). IsEnding command ending input input output output_after) other (refl, subst (λ (t : List ℕ). Says Usage ending output t output_after) is says)

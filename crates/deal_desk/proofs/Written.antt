@@ -1,10 +1,39 @@
 -- A text is written piece by piece.
-use Rattle.std.proofs.Common.{ℕ, ◌+◌, List, ◌++◌, take, drop, Option, Some, None, sym, ap, ◌∙◌, append_assoc, take-add}
-use Rattle.dh_base.specs.Outside.{Gains}
+use Rattle.std.proofs.Common.{◌≡◌, ℕ, ◌+◌, List, ◌++◌, take, drop, Option, Some, None, sym, ap, subst, ◌∙◌, append_assoc, take-add}
+use Rattle.std.specs.Io.KnownBytes.{Appends, Keeps}
+use Rattle.dh_base.specs.Faults.{HasRisen}
+use Rattle.dh_base.specs.Outside.{Seen, Gained, Rose}
+use Rattle.deal_desk.specs.Endings.{WroteFront}
 
-pub front_grows : (text : List ℕ) (at n : ℕ) (first now next : Option (List ℕ)) → Gains first text at now → Gains now (drop at text) n next → Gains first text (at + n) next
-front_grows text at n None now next front gains = tt
-front_grows text at n (Some before) None next front gains = absurd front
-front_grows text at n (Some before) (Some so_far) None front gains = absurd gains
-front_grows text at n (Some before) (Some so_far) (Some longer) front gains =
-    gains ∙ (ap (λ (t : List ℕ). t ++ take n (drop at text)) front ∙ (append_assoc before (take at text) (take n (drop at text)) ∙ ap (λ (t : List ℕ). before ++ t) (sym (take-add at n text))))
+kept_again : (first now next : Option (List ℕ)) → Keeps first now → Keeps now next → Keeps first next
+kept_again None now next kept again = tt
+kept_again (Some bytes) None next kept again = absurd kept
+kept_again (Some bytes) (Some same) None kept again = absurd again
+kept_again (Some bytes) (Some same) (Some last) kept again = again ∙ kept
+
+written_more : (text : List ℕ) (at n : ℕ) (first now next : Option (List ℕ)) → Appends first now (take at text) → Appends now next (take n (drop at text)) → Appends first next (take (at + n) text)
+written_more text at n None now next front more = tt
+written_more text at n (Some before) None next front more = absurd front
+written_more text at n (Some before) (Some so_far) None front more = absurd more
+written_more text at n (Some before) (Some so_far) (Some longer) front more =
+    more ∙ (ap (λ (t : List ℕ). t ++ take n (drop at text)) front ∙ (append_assoc before (take at text) (take n (drop at text)) ∙ ap (λ (t : List ℕ). before ++ t) (sym (take-add at n text))))
+
+written_kept : (text : List ℕ) (first now next : Option (List ℕ)) → Appends first now text → Keeps now next → Appends first next text
+written_kept text None now next front kept = tt
+written_kept text (Some before) None next front kept = absurd front
+written_kept text (Some before) (Some so_far) None front kept = absurd kept
+written_kept text (Some before) (Some so_far) (Some same) front kept = kept ∙ front
+
+pub front_grows : (text : List ℕ) (at n : ℕ) (first now next : Seen) → Gained first (take at text) now → Gained now (take n (drop at text)) next → Gained first (take (at + n) text) next
+front_grows text at n first now next front more = record {
+  left = kept_again first.left now.left next.left front.left more.left;
+  written = written_more text at n first.written now.written next.written front.written more.written;
+  faults = more.faults ∙ front.faults;
+}
+
+pub front_stays : (text : List ℕ) (at : ℕ) (first now next : Seen) → Gained first (take at text) now → Rose now next → WroteFront first text next
+front_stays text at first now next front rose = (
+  subst (λ (count : ℕ). HasRisen count next.faults) front.faults rose.faults,
+  at,
+  written_kept (take at text) first.written now.written next.written front.written rose.written,
+)

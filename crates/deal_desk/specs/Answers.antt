@@ -31,10 +31,15 @@ Never = true ≡ false
 
 -- What `clear` answers. An input of too many bytes is refused as a whole, whatever it says.
 abbrev pub IsCleared : (input : List ℕ) → Ending → (text : List ℕ) → Type 0
-IsCleared input Done text = (length input ≤ most_bytes) × (deal : DealTold) × IsTextOf deal input × (text ≡ clearing_of deal)
+IsCleared input Done text =
+    (length input ≤ most_bytes)
+    × (deal : DealTold) × IsTextOf deal input × (text ≡ clearing_of deal)
 IsCleared input Usage text = Never
-IsCleared input (Refused line rule) text = (most_bytes < length input) × (line ≡ 0) × (rule ≡ TooLarge) × (text ≡ refused_line line rule)
-IsCleared input (RefusedDeal fault) text = (length input ≤ most_bytes) × (fault ≡ OutOfMemory → ⊥) × IsFaultOf input fault × (text ≡ refused_deal_line fault)
+IsCleared input (Refused line rule) text =
+    (most_bytes < length input) × (line ≡ 0) × (rule ≡ TooLarge) × (text ≡ refused_line line rule)
+IsCleared input (RefusedDeal fault) text =
+    (length input ≤ most_bytes) × (fault ≡ OutOfMemory → ⊥)
+    × IsFaultOf input fault × (text ≡ refused_deal_line fault)
 IsCleared input InputFailed text = Never
 IsCleared input OutputFailed text = Never
 IsCleared input NoMemory text = Never
@@ -43,7 +48,9 @@ IsCleared input NoMemory text = Never
 abbrev pub IsRehearsed : (input : List ℕ) → Ending → (text : List ℕ) → Type 0
 IsRehearsed input Done text = rehearsal_of input ≡ Ok text
 IsRehearsed input Usage text = Never
-IsRehearsed input (Refused line rule) text = (rehearsal_of input ≡ Err (record { line = line; rule = rule })) × (text ≡ refused_line line rule)
+IsRehearsed input (Refused line rule) text =
+    (rehearsal_of input ≡ Err (record { line = line; rule = rule }))
+    × (text ≡ refused_line line rule)
 IsRehearsed input (RefusedDeal fault) text = Never
 IsRehearsed input InputFailed text = Never
 IsRehearsed input OutputFailed text = Never
@@ -57,4 +64,6 @@ IsAnswer Rehearse input ending text = IsRehearsed input ending text
 -- This is the answer to the input, and there is no other.
 abbrev pub IsTheAnswer : Command → (input : List ℕ) → Ending → (text : List ℕ) → Type 0
 IsTheAnswer command input ending text =
-    IsAnswer command input ending text × ((other : Ending) (told : List ℕ) → IsAnswer command input other told → (other ≡ ending) × (told ≡ text))
+    IsAnswer command input ending text
+    × ((other : Ending) (told : List ℕ) → IsAnswer command input other told →
+    (other ≡ ending) × (told ≡ text))

@@ -12,8 +12,10 @@ unread all = drop most_read all
 
 -- The bytes are all that were left, or as many of them as are read at most.
 abbrev pub WasRead : Option (List ℕ) → List ℕ → Option (List ℕ) → Type 0
-WasRead before bytes after = IfSome before (λ all. (bytes ≡ take most_read all) × (after ≡ Some (unread all)))
+WasRead before bytes after = IfSome before (λ all.
+    (bytes ≡ take most_read all) × (after ≡ Some (unread all)))
 
 -- The source gave some first bytes, no more than are read at most.
 abbrev pub GaveFront : Option (List ℕ) → Option (List ℕ) → Type 0
-GaveFront before after = IfSome before (λ all. (n : ℕ) × (n ≤ most_read) × (after ≡ Some (drop n all)))
+GaveFront before after = IfSome before (λ all.
+    (n : ℕ) × (n ≤ most_read) × (after ≡ Some (drop n all)))

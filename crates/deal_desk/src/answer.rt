@@ -31,7 +31,10 @@ impl Answer {
 
     /// The line of the input breaks the rule.
     pub fn refused(alloc: Global, line: u32, rule: ScriptRule) -> Result<Answer, NoMemory>
-        ensures { IfOk result (λ answer. answer ≡ record { ending = Refused line rule; text = refused_line line rule }) }
+        ensures { IfOk result (λ answer. answer ≡ record {
+          ending = Refused line rule;
+          text = refused_line line rule;
+        }) }
     {
         let refused = RefusedLine { line, rule };
         let mut text = String::new(alloc);
@@ -44,7 +47,10 @@ impl Answer {
 
     /// The input is no deal's text, for this fault.
     pub fn refused_deal(alloc: Global, fault: DealFault) -> Result<Answer, NoMemory>
-        ensures { IfOk result (λ answer. answer ≡ record { ending = RefusedDeal fault; text = refused_deal_line fault }) }
+        ensures { IfOk result (λ answer. answer ≡ record {
+          ending = RefusedDeal fault;
+          text = refused_deal_line fault;
+        }) }
     {
         let mut text = String::new(alloc);
         write!(text, "refused {fault}\n")?;

@@ -23,9 +23,11 @@ pub enum ReadHalt {
 
 /// Reads the source to its end, or to one byte more than an input may have.
 pub fn read_input<S: Source>(alloc: Global, input: &mut S) -> Result<Vec<u8>, ReadHalt>
-    ensures read { IfOk result (λ bytes. WasRead (S.left input.old) bytes.items (S.left input.new)) }
-    ensures front { OnErr result (GaveFront (S.left input.old) (S.left input.new)) }
-    ensures failed { IfErr result (λ halt. halt ≡ HasFailed → HasRisen (S.faults input.old) (S.faults input.new)) }
+    ensures read { IfOk result (λ bytes.
+        WasRead (S.seen input.old).left bytes.items (S.seen input.new).left) }
+    ensures front { OnErr result (GaveFront (S.seen input.old).left (S.seen input.new).left) }
+    ensures failed { IfErr result (λ halt. halt ≡ HasFailed →
+        HasRisen (S.seen input.old).faults (S.seen input.new).faults) }
 {
     let mut bytes = Vec::new(alloc);
     let mut piece = [0; PIECE];

@@ -16,7 +16,7 @@ const USAGE: &str =
 
 /// Writes the text, and ends so.
 fn say<K: Sink>(text: &[u8], ending: Ending, output: &mut K) -> Ending
-    ensures { Says ending result (record { written = K.written output.old; faults = K.faults output.old }) text.now (record { written = K.written output.new; faults = K.faults output.new }) }
+    ensures { Says ending result (K.seen output.old) text.now (K.seen output.new) }
 {
     match write_text(text, output) {
         Ok(()) => ending,
@@ -26,7 +26,7 @@ fn say<K: Sink>(text: &[u8], ending: Ending, output: &mut K) -> Ending
 
 /// Writes what the command answers to the input.
 fn tell<K: Sink>(alloc: Global, command: Command, input: &[u8], output: &mut K) -> Ending
-    ensures { IsTold command result input.now (record { written = K.written output.old; faults = K.faults output.old }) (record { written = K.written output.new; faults = K.faults output.new }) }
+    ensures { IsTold command result input.now (K.seen output.old) (K.seen output.new) }
 {
     match answer(alloc, command, input) {
         Ok(answer) => say(answer.text.as_slice(), answer.ending, output),
@@ -41,7 +41,8 @@ fn carry_out<S: Source, K: Sink>(
     input: &mut S,
     output: &mut K,
 ) -> Ending
-    ensures { IsCarriedOut command result (record { left = S.left input.old; faults = S.faults input.old }) (record { left = S.left input.new; faults = S.faults input.new }) (record { written = K.written output.old; faults = K.faults output.old }) (record { written = K.written output.new; faults = K.faults output.new }) }
+    ensures { IsCarriedOut command result
+        (S.seen input.old) (S.seen input.new) (K.seen output.old) (K.seen output.new) }
 {
     match read_input(alloc, input) {
         Ok(bytes) => tell(alloc, command, &bytes, output),
@@ -56,14 +57,9 @@ fn carry_out<S: Source, K: Sink>(
 /// or too many bytes), 3 and 4 where the source or the sink fails, and 7 where memory runs out.
 pub fn run<S: Source, K: Sink>(alloc: Global, words: &[String], input: &mut S, output: &mut K) -> u8
     ensures ended { IsEnded result (map string_bytes words.now)
-        (record { left = S.left input.old; faults = S.faults input.old })
-        (record { left = S.left input.new; faults = S.faults input.new })
-        (record { written = K.written output.old; faults = K.faults output.old })
-        (record { written = K.written output.new; faults = K.faults output.new }) }
+        (S.seen input.old) (S.seen input.new) (K.seen output.old) (K.seen output.new) }
     ensures one_log { KeepsOneLog result (map string_bytes words.now)
-        (record { left = S.left input.old; faults = S.faults input.old })
-        (record { written = K.written output.old; faults = K.faults output.old })
-        (record { written = K.written output.new; faults = K.faults output.new }) }
+        (S.seen input.old) (K.seen output.old) (K.seen output.new) }
 {
     let Some(command) = Command::from_words(words) else {
         return say(USAGE.as_bytes(), Ending::Usage, output).status();

@@ -109,9 +109,10 @@ takes-or_fault {A} {E} {F} of taken spells takes bytes at read are =
 -- the same values, spelled in other words
 pub takes-same : {A F : Type 0} (taken : List ℕ → ℕ → Result (A × ℕ) F) (spells others : A → List ℕ → Type 0) →
     ((value : A) (text : List ℕ) → spells value text ↔ others value text) → TakesWhatIsSpelled taken spells → TakesWhatIsSpelled taken others
-takes-same taken spells others same takes bytes at read are =
-    (λ e. let s = (takes bytes at read are).0 e in record { text = s.text; spelled = (same read.0 s.text).0 s.spelled; stands = s.stands; next = s.next },
-      λ s. (takes bytes at read are).1 (record { text = s.text; spelled = (same read.0 s.text).1 s.spelled; stands = s.stands; next = s.next }))
+takes-same taken spells others same takes bytes at read are = (
+  λ e. let s = (takes bytes at read are).0 e in record { text = s.text; spelled = (same read.0 s.text).0 s.spelled; stands = s.stands; next = s.next },
+  λ s. (takes bytes at read are).1 (record { text = s.text; spelled = (same read.0 s.text).1 s.spelled; stands = s.stands; next = s.next }),
+)
 
 -- ---- fields
 
@@ -271,8 +272,10 @@ takes-list {A} {F} count fits_count count_text taken fits text_of takes_count ta
     let number : a.0.0 ≡ length read.0 = sym rest.spelled.0.0 in
     record {
       text = front.text ++ rest.text;
-      spelled = ((subst fits_count number front.spelled.0, rest.spelled.0.1),
-        ap (λ (t : List ℕ). t ++ rest.text) (front.spelled.1 ∙ ap count_text number) ∙ ap (λ (t : List ℕ). count_text (length read.0) ++ t) rest.spelled.1);
+      spelled = (
+        (subst fits_count number front.spelled.0, rest.spelled.0.1),
+        ap (λ (t : List ℕ). t ++ rest.text) (front.spelled.1 ∙ ap count_text number) ∙ ap (λ (t : List ℕ). count_text (length read.0) ++ t) rest.spelled.1,
+      );
       stands = StandsAt-append front.text rest.text bytes at a.0.1 front.next front.stands rest.stands;
       next = omega (arith, rest.next, front.next, length-append front.text rest.text);
     } in

@@ -4,3 +4,4 @@ pub mod Formats
 pub mod Moving
 pub mod Writing
 pub mod NameReading
+pub mod SameIds

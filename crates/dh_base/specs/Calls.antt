@@ -22,3 +22,11 @@ after_call calls = record {
   made = one_more 32 calls.made;
   faults = if fails_next calls then one_more 64 calls.faults else calls.faults;
 }
+
+-- after one call more, which failed
+abbrev pub after_failed_call : CallsTold → CallsTold
+after_failed_call calls = record {
+  fails = calls.fails;
+  made = one_more 32 calls.made;
+  faults = one_more 64 calls.faults;
+}

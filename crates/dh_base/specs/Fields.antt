@@ -22,7 +22,8 @@ abbrev pub ◌>>=◌ : {A B F : Type 0} → Result A F → (A → Result B F) �
 
 -- n bytes at a place, or Short there where the bytes end first
 abbrev pub bytes_at : ℕ → List ℕ → ℕ → Result (List ℕ) BaseFault
-bytes_at n bytes at = if nat_lt (length bytes) (at + n) then Err (Short at) else Ok (take n (drop at bytes))
+bytes_at n bytes at =
+    if nat_lt (length bytes) (at + n) then Err (Short at) else Ok (take n (drop at bytes))
 
 abbrev pub number_at : Width → List ℕ → ℕ → Result ℕ BaseFault
 number_at w bytes at = bytes_at (byte_len w) bytes at >>= λ field. Ok (from_be_bytes w field)

@@ -10,3 +10,5 @@ pub mod Memory
 pub mod BaseFaults
 pub mod Fields
 pub mod Formats
+pub mod Ids
+pub mod Amounts

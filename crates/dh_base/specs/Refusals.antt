@@ -1,5 +1,5 @@
--- What a refusal tells: its number, its name and its fields in order, each with its label, and behind it what the refusals
--- tell that it holds.
+-- What a refusal tells: its number, its name and its fields in order, each with its label, and
+-- behind it what the refusals tell that it holds.
 use Rattle.std.specs.Prelude.{ℕ, List, [], ◌∷◌, ◌++◌, take, codes, Option, Some, None, option_map}
 use Rattle.std.specs.List.{flat_map}
 use Rattle.std.specs.Option.{option_map}
@@ -83,7 +83,8 @@ fields_there (None ∷ rest) = fields_there rest
 fields_there (Some field ∷ rest) = field_told field ∷ fields_there rest
 
 abbrev pub telling_told : Telling → Told
-telling_told telling = told_of telling.number telling.name.now (fields_there (telling.first ∷ telling.second ∷ telling.third ∷ telling.fourth ∷ []))
+telling_told telling = told_of telling.number telling.name.now
+    (fields_there (telling.first ∷ telling.second ∷ telling.third ∷ telling.fourth ∷ []))
 
 abbrev pub option_telling_told : Option Telling → Option Told
 option_telling_told telling = option_map telling_told telling

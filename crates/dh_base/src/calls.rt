@@ -3,7 +3,7 @@
 ghost use Rattle.std.specs.Prelude.{◌≡◌, ◌↔◌, Ok, IsErr, IsTrue};
 ghost use Rattle.dh_base.specs.Calls.{fails_next, after_call, one_more};
 
-use crate::failure::Failed;
+use crate::failure::{Failed, count_fault};
 use crate::list::List;
 use std::marker::Model;
 
@@ -51,8 +51,7 @@ impl Calls {
         let fails = self.fails_next();
         self.made = self.made.saturating_add(1);
         if fails {
-            self.faults = self.faults.saturating_add(1);
-            Err(Failed)
+            Err(count_fault(&mut self.faults))
         } else {
             Ok(())
         }
@@ -62,8 +61,7 @@ impl Calls {
     pub fn refuse(&mut self) -> Failed
         ensures { self.new ≡ record self.old { faults = one_more 64 self.old.faults } }
     {
-        self.faults = self.faults.saturating_add(1);
-        Failed
+        count_fault(&mut self.faults)
     }
 
     /// How many calls have failed.

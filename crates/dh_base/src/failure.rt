@@ -1,5 +1,8 @@
 //! What stops a call from without: want of memory, and a failing outside.
 
+ghost use Rattle.std.specs.Prelude.{◌≡◌};
+ghost use Rattle.dh_base.specs.Calls.{one_more};
+
 use std::alloc::{AllocError, AllocFailed};
 use std::fmt;
 
@@ -10,6 +13,14 @@ pub struct NoMemory;
 /// The outside failed a call, and counted it.
 #[derive(Clone, Copy, Debug, PartialEq, Eq)]
 pub struct Failed;
+
+/// Counts a fault. A count that has reached its greatest value stands still there.
+pub fn count_fault(faults: &mut u64) -> Failed
+    ensures { faults.new ≡ one_more 64 faults.old }
+{
+    *faults = faults.saturating_add(1);
+    Failed
+}
 
 impl From<AllocError> for NoMemory {
     fn from(_error: AllocError) -> NoMemory {

@@ -1,5 +1,6 @@
-//! Laws of the fields of byte texts: what is put stands where the text ended before, and a field that
-//! stands at a place is the one that is taken there, and no other is. And a law of the texts of refusals.
+//! Laws of the fields of byte texts: what is put stands where the text ended before, and a field
+//! that stands at a place is the one that is taken there, and no other is. And a law of the texts of
+//! refusals.
 
 ghost use Rattle.std.specs.Prelude.{◌≡◌, ◌↔◌, ◌+◌, ◌≤◌, ◌∷◌, ◌++◌, ℕ, List, length, Ok, IsTrue};
 ghost use Rattle.std.specs.Int.{w8, w16, w32, w64};
@@ -10,13 +11,15 @@ ghost use Rattle.dh_base.specs.Fields.{AreBytes, StandsAt, TakenWhereItStands, b
 
 /// What is put stands where the text ended before, whatever is put behind it.
 pub fn put_stands()
-    ensures { (before field behind : List ℕ) → StandsAt field (before ++ field ++ behind) (length before) }
+    ensures { (before field behind : List ℕ) →
+        StandsAt field (before ++ field ++ behind) (length before) }
 {}
 
 /// Two texts stand one behind the other exactly where they stand joined.
 pub fn joined_stand()
     ensures { (first second bytes : List ℕ) (at : ℕ) →
-        StandsAt (first ++ second) bytes at ↔ (StandsAt first bytes at × StandsAt second bytes (at + length first)) }
+        StandsAt (first ++ second) bytes at
+        ↔ (StandsAt first bytes at × StandsAt second bytes (at + length first)) }
 {}
 
 /// A number is taken at a place exactly where it stands there.
@@ -36,7 +39,8 @@ pub fn bytes_taken()
 /// A name is taken at a place exactly where it stands there.
 pub fn names_taken()
     ensures { (bytes name : List ℕ) (at : ℕ) → AreBytes bytes →
-        (name_at bytes at ≡ Ok name) ↔ (IsTrue (is_name name) × StandsAt (name_field name) bytes at) }
+        (name_at bytes at ≡ Ok name)
+        ↔ (IsTrue (is_name name) × StandsAt (name_field name) bytes at) }
 {}
 
 /// A refusal that holds at most seven is printed whole.

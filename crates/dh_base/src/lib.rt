@@ -2,11 +2,13 @@
 //! fields; the fields of byte texts, and digests of bytes; and the sources and sinks through which a
 //! program reads and writes bytes.
 //!
-//! [`Source`] and [`Sink`] say what any outside may do: give or take a piece of the bytes, or fail,
-//! which it counts. [`MemSource`] and [`MemSink`] are such outsides in memory, which fail the calls that
-//! a test tells them to. [`ReaderSource`] and [`WriterSink`] stand over the system's readers and writers.
+//! [`Outside`] says what is seen of a source or a sink, and [`Source`] and [`Sink`] what it may do:
+//! give or take a piece of the bytes, or fail, which it counts. [`MemSource`] and [`MemSink`] are such
+//! outsides in memory, which fail the calls that a test tells them to. [`ReaderSource`] and
+//! [`WriterSink`] stand over the system's readers and writers.
 #![tactic(auto)]
 
+pub mod amount;
 pub mod base_fault;
 pub mod calls;
 pub mod failure;
@@ -19,6 +21,7 @@ pub mod mem_source;
 pub mod name;
 pub mod next;
 pub mod outcome;
+pub mod outside;
 pub mod put;
 pub mod refusal;
 pub mod sink;
@@ -26,9 +29,10 @@ pub mod source;
 pub mod standard;
 pub mod take;
 
+pub use amount::GREATEST_AMOUNT;
 pub use base_fault::BaseFault;
 pub use calls::Calls;
-pub use failure::{Failed, NoMemory};
+pub use failure::{Failed, NoMemory, count_fault};
 pub use hash::digest;
 pub use id::Id;
 pub use list::List;
@@ -37,7 +41,8 @@ pub use mem_source::MemSource;
 pub use name::Name;
 pub use next::{next_id, next_name, next_text, next_u8, next_u16, next_u32, next_u64};
 pub use outcome::Outcome;
-pub use put::{put_id, put_name, put_u8, put_u16, put_u32, put_u64};
+pub use outside::Outside;
+pub use put::{put_id, put_name, put_text, put_u8, put_u16, put_u32, put_u64};
 pub use refusal::{Field, FieldValue, Refusal, Telling};
 pub use sink::Sink;
 pub use source::Source;

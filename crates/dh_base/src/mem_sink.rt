@@ -1,13 +1,14 @@
 //! A sink in memory.
 
-ghost use Rattle.std.specs.Prelude.{◌≡◌, ◌↔◌, ◌<◌, ◌≤◌, [], ◌++◌, Some, Ok, IsErr, IfOk, OnErr, IsTrue, length};
-ghost use Rattle.dh_base.specs.Faults.{HasRisen};
-ghost use Rattle.dh_base.specs.Outside.{Gains};
-ghost use Rattle.dh_base.specs.Calls.{fails_next, after_call};
+ghost use Rattle.std.specs.Prelude.{◌≡◌, ◌<◌, ◌≤◌, [], IsErr, IfOk, OnOk, OnErr, IsTrue, length, take};
+ghost use Rattle.dh_base.specs.Outside.{Gained, Rose};
+ghost use Rattle.dh_base.specs.Memory.{sink_seen};
+ghost use Rattle.dh_base.specs.Calls.{fails_next, after_call, after_failed_call};
 
 use crate::calls::Calls;
 use crate::failure::Failed;
 use crate::list::List;
+use crate::outside::Outside;
 use crate::sink::Sink;
 use std::alloc::Global;
 use std::marker::Model;
@@ -29,9 +30,13 @@ impl Model for MemSink {
 }
 
 impl MemSink {
-    /// A sink with nothing written, of which the calls with the numbers `fails`, from 0, are to fail.
+    /// A sink with nothing written, of which the calls with the numbers `fails`, from 0, are to
+    /// fail.
     pub fn new(alloc: Global, fails: List<u32>) -> MemSink
-        ensures { result ≡ record { written = []; calls = record { fails = fails; made = 0; faults = 0 } } }
+        ensures { result ≡ record {
+          written = [];
+          calls = record { fails = fails; made = 0; faults = 0 };
+        } }
     {
         MemSink {
             bytes: Vec::new(alloc),
@@ -54,19 +59,22 @@ impl MemSink {
     }
 }
 
+impl Outside for MemSink {
+    ghost use Rattle.dh_base.specs.Memory.{sink_seen};
+
+    ghost seen = { sink_seen };
+}
+
 impl Sink for MemSink {
-    ghost written = { λ s. Some s.written };
-
-    ghost faults = { λ s. s.calls.faults };
-
     fn write(&mut self, piece: &[u8]) -> Result<usize, Failed>
         ensures within { IfOk result (λ n. n ≤ length piece.now) }
         ensures some { IfOk result (λ n. 0 < length piece.now → 0 < n) }
-        ensures gains { IfOk result (λ n. Gains (Some self.old.written) piece.now n (Some self.new.written)) }
-        ensures failed { OnErr result (HasRisen self.old.calls.faults self.new.calls.faults) }
-        ensures unchanged { OnErr result (Some self.new.written ≡ Some self.old.written) }
-        ensures count { self.old.calls.faults ≤ self.new.calls.faults }
+        ensures gained { IfOk result (λ n.
+            Gained (sink_seen self.old) (take n piece.now) (sink_seen self.new)) }
+        ensures failed { OnErr result (Rose (sink_seen self.old) (sink_seen self.new)) }
         ensures told { IsTrue (fails_next self.old.calls) → IsErr result }
+        ensures calls { OnOk result (self.new.calls ≡ after_call self.old.calls) }
+        ensures failed_call { OnErr result (self.new.calls ≡ after_failed_call self.old.calls) }
         ensures whole { IfOk result (λ n. n ≡ length piece.now) }
     {
         self.calls.make()?;

@@ -1,13 +1,15 @@
 //! A source in memory.
 
-ghost use Rattle.std.specs.Prelude.{◌≡◌, ◌↔◌, ◌<◌, ◌≤◌, ◌-◌, Some, Ok, IsErr, IfOk, OnErr, IsTrue, length, min, drop};
-ghost use Rattle.dh_base.specs.Faults.{HasRisen};
-ghost use Rattle.dh_base.specs.Outside.{Takes, IsAtEnd};
+ghost use Rattle.std.specs.Prelude.{◌≡◌, ◌↔◌, ◌<◌, ◌≤◌, IsErr, IfOk, OnErr, IsTrue, length, min, take};
+ghost use Rattle.std.specs.Io.KnownBytes.{IsAtEnd};
+ghost use Rattle.dh_base.specs.Outside.{Took, Rose};
+ghost use Rattle.dh_base.specs.Memory.{source_seen};
 ghost use Rattle.dh_base.specs.Calls.{fails_next, after_call};
 
 use crate::calls::Calls;
 use crate::failure::Failed;
 use crate::list::List;
+use crate::outside::Outside;
 use crate::source::Source;
 use std::marker::Model;
 
@@ -33,7 +35,10 @@ impl Model for MemSource {
 impl MemSource {
     /// A source of these bytes, of which the calls with the numbers `fails`, from 0, are to fail.
     pub fn new(bytes: List<u8>, fails: List<u32>) -> MemSource
-        ensures { result ≡ record { left = bytes; calls = record { fails = fails; made = 0; faults = 0 } } }
+        ensures { result ≡ record {
+          left = bytes;
+          calls = record { fails = fails; made = 0; faults = 0 };
+        } }
     {
         MemSource {
             bytes,
@@ -57,20 +62,23 @@ impl MemSource {
     }
 }
 
+impl Outside for MemSource {
+    ghost use Rattle.dh_base.specs.Memory.{source_seen};
+
+    ghost seen = { source_seen };
+}
+
 impl Source for MemSource {
-    ghost left = { λ s. Some s.left };
-
-    ghost faults = { λ s. s.calls.faults };
-
     fn read(&mut self, buffer: &mut [u8]) -> Result<usize, Failed>
         ensures within { IfOk result (λ n. n ≤ length buffer.old) }
-        ensures takes { IfOk result (λ n. Takes (Some self.old.left) buffer.new n (Some self.new.left)) }
-        ensures end { IfOk result (λ n. n ≡ 0 → 0 < length buffer.old → IsAtEnd (Some self.old.left)) }
-        ensures failed { OnErr result (HasRisen self.old.calls.faults self.new.calls.faults) }
-        ensures unchanged { OnErr result (Some self.new.left ≡ Some self.old.left) }
-        ensures count { self.old.calls.faults ≤ self.new.calls.faults }
+        ensures took { IfOk result (λ n.
+            Took (source_seen self.old) (take n buffer.new) (source_seen self.new)) }
+        ensures end { IfOk result (λ n.
+            n ≡ 0 → 0 < length buffer.old → IsAtEnd (source_seen self.new).left) }
+        ensures failed { OnErr result (Rose (source_seen self.old) (source_seen self.new)) }
         ensures told { IsErr result ↔ IsTrue (fails_next self.old.calls) }
         ensures calls { self.new.calls ≡ after_call self.old.calls }
+        ensures whole { IfOk result (λ n. n ≡ min (length self.old.left) (length buffer.old)) }
     {
         self.calls.make()?;
         let rest = &self.bytes.as_slice()[self.at..];

@@ -1,9 +1,10 @@
 //! Appending the fields of a byte text. Numbers have their high byte first. Where memory runs out, the
 //! text is as it was.
 
-ghost use Rattle.std.specs.Prelude.{◌≡◌, ◌++◌, OnOk, OnErr};
+ghost use Rattle.std.specs.Prelude.{◌≡◌, ◌<◌, ◌^◌, ◌++◌, length, OnOk, OnErr};
 ghost use Rattle.std.specs.Int.{w8, w16, w32, w64, to_be_bytes};
 ghost use Rattle.dh_base.specs.Fields.{name_field};
+ghost use Rattle.dh_base.specs.Formats.{text_field};
 
 use crate::failure::NoMemory;
 use crate::id::Id;
@@ -64,5 +65,20 @@ pub fn put_name(out: &mut Vec<u8>, field: &Name) -> Result<(), NoMemory>
     text[0] = characters.len() as u8;
     text[1..=characters.len()].copy_from_slice(characters);
     out.extend_from_slice(&text[..=characters.len()])?;
+    Ok(())
+}
+
+/// Appends a text behind its length, a number of four bytes.
+pub fn put_text(out: &mut Vec<u8>, text: &[u8]) -> Result<(), NoMemory>
+    requires { length text.now < 2 ^ 32 }
+    ensures ok { OnOk result (out.new.items ≡ out.old.items ++ text_field text.now) }
+    ensures unchanged { OnErr result (out.new.items ≡ out.old.items) }
+{
+    let before = out.len();
+    put_u32(out, text.len() as u32)?;
+    if out.extend_from_slice(text).is_err() {
+        out.truncate(before);
+        return Err(NoMemory);
+    }
     Ok(())
 }

@@ -164,7 +164,8 @@ impl Telling {
     ) -> Option<Telling>
         requires { length fields.now ≤ 4 }
         ensures { option_telling_told result ≡
-            slice_get (told_of number name.now (map field_told fields.now) ∷ R.told held.now) level }
+            slice_get
+            (told_of number name.now (map field_told fields.now) ∷ R.told held.now) level }
     {
         if level == 0 {
             Some(Telling::new(number, name, fields))
@@ -207,7 +208,7 @@ pub trait Refusal {
     /// What it tells of itself, and behind it what each refusal tells that it holds.
     ghost told: { Self → List Told };
 
-    /// What is told at a level. Its own is at level 0, and that of a refusal that it holds at level 1.
+    /// What is told at a level: at level 0 its own, at level 1 what the refusal tells that it holds.
     fn telling(&self, level: usize) -> Option<Telling>
         ensures { option_telling_told result ≡ slice_get (told self.now) level };
 }

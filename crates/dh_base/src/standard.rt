@@ -1,9 +1,10 @@
 //! Sources and sinks over standard input and output, or any reader and writer of the system. They tell
-//! nothing of the bytes, and count each error.
+//! the bytes that the reader and the writer tell, and count each error.
 
 ghost use Rattle.std.specs.Prelude.{◌≡◌, None};
 
-use crate::failure::Failed;
+use crate::failure::{Failed, count_fault};
+use crate::outside::Outside;
 use crate::sink::Sink;
 use crate::source::Source;
 use std::io;
@@ -22,20 +23,24 @@ impl<R: io::Read> ReaderSource<R> {
     {
         ReaderSource { reader, faults: 0 }
     }
+
+    /// How many calls have failed.
+    pub fn faults(&self) -> u64
+        ensures { result ≡ self.now.faults }
+    {
+        self.faults
+    }
+}
+
+impl<R: io::Read> Outside for ReaderSource<R> {
+    ghost seen = { λ s. record { left = R.remaining s.reader; written = None; faults = s.faults } };
 }
 
 impl<R: io::Read> Source for ReaderSource<R> {
-    ghost left = { λ _. None };
-
-    ghost faults = { λ s. s.faults };
-
     fn read(&mut self, buffer: &mut [u8]) -> Result<usize, Failed> {
         match self.reader.read(buffer) {
             Ok(n) => Ok(n),
-            Err(_) => {
-                self.faults = self.faults.saturating_add(1);
-                Err(Failed)
-            }
+            Err(_) => Err(count_fault(&mut self.faults)),
         }
     }
 }
@@ -54,20 +59,24 @@ impl<W: io::Write> WriterSink<W> {
     {
         WriterSink { writer, faults: 0 }
     }
+
+    /// How many calls have failed.
+    pub fn faults(&self) -> u64
+        ensures { result ≡ self.now.faults }
+    {
+        self.faults
+    }
+}
+
+impl<W: io::Write> Outside for WriterSink<W> {
+    ghost seen = { λ s. record { left = None; written = W.contents s.writer; faults = s.faults } };
 }
 
 impl<W: io::Write> Sink for WriterSink<W> {
-    ghost written = { λ _. None };
-
-    ghost faults = { λ s. s.faults };
-
     fn write(&mut self, piece: &[u8]) -> Result<usize, Failed> {
         match self.writer.write(piece) {
             Ok(n) if 0 < n || piece.is_empty() => Ok(n),
-            _ => {
-                self.faults = self.faults.saturating_add(1);
-                Err(Failed)
-            }
+            _ => Err(count_fault(&mut self.faults)),
         }
     }
 }

@@ -4,6 +4,8 @@ use std::alloc::{AllocError, Global};
 use std::fmt;
 use std::test::Fail;
 
+mod adapters;
+
 fn name(text: &str) -> Result<Name, BaseFault> {
     Name::from_bytes(text.as_bytes())
 }
@@ -58,7 +60,8 @@ impl Refusal for Outer {
     ghost use Rattle.dh_base.specs.declared.refusal.FieldValue.TheVariants.{Called};
 
     ghost told = { λ outer.
-        told_of 9 (codes "Outer") (field_of (codes "of") (Called outer.of) ∷ []) ∷ base_fault_told outer.held };
+        told_of 9 (codes "Outer") (field_of (codes "of") (Called outer.of) ∷ [])
+        ∷ base_fault_told outer.held };
 
     fn telling(&self, level: usize) -> Option<Telling> {
         Telling::holding(level, 9, "Outer", &[called("of", self.of)], &self.held)
@@ -72,7 +75,8 @@ impl fmt::Display for Outer {
     ghost use Rattle.dh_base.specs.declared.refusal.FieldValue.TheVariants.{Called};
 
     ghost output = { λ outer. Some (refusal_text
-        (told_of 9 (codes "Outer") (field_of (codes "of") (Called outer.of) ∷ []) ∷ base_fault_told outer.held)) };
+        (told_of 9 (codes "Outer") (field_of (codes "of") (Called outer.of) ∷ [])
+        ∷ base_fault_told outer.held)) };
 
     fn fmt<W: fmt::Write>(&self, f: &mut fmt::Formatter<W>) -> fmt::Result {
         write_refusal(self, f)
@@ -158,17 +162,19 @@ fn fields_that_are_put_are_taken(rt: HostRuntime) -> Result<(), Fail> {
     put_u64(&mut text, 0x0708090a0b0c0d0e)?;
     put_id(&mut text, &Id(ABC))?;
     put_name(&mut text, &name("carol-2")?)?;
+    put_text(&mut text, b"abc")?;
     assert_eq!(rt;
         &text[..15],
         [0xfe, 1, 2, 3, 4, 5, 6, 7, 8, 9, 10, 11, 12, 13, 14].as_slice()
     );
-    assert_eq!(rt; &text[47..], b"\x07carol-2".as_slice());
+    assert_eq!(rt; &text[47..], b"\x07carol-2\0\0\0\x03abc".as_slice());
     assert_eq!(rt; take_u8(&text, 0), Ok(0xfe));
     assert_eq!(rt; take_u16(&text, 1), Ok(0x0102));
     assert_eq!(rt; take_u32(&text, 3), Ok(0x03040506));
     assert_eq!(rt; take_u64(&text, 7), Ok(0x0708090a0b0c0d0e));
     assert_eq!(rt; take_id(&text, 15), Ok(Id(ABC)));
     assert_eq!(rt; take_name(&text, 47)?.as_str(), "carol-2");
+    assert_eq!(rt; next_text(&text, 55), Ok((b"abc".as_slice(), 62)));
     Ok(())
 }
 
@@ -183,6 +189,11 @@ fn fields_that_are_cut_or_no_names_are_refused(rt: HostRuntime) {
         take_name(b"\x02a", 0).err(),
         Some(BaseFault::Short { at: 0 })
     );
+    assert_eq!(rt;
+        next_text(b".\0\0\0\x02a", 1),
+        Err(BaseFault::Short { at: 5 })
+    );
+    assert_eq!(rt; next_text(b"\0\0\0", 0), Err(BaseFault::Short { at: 0 }));
     assert_eq!(rt; take_name(b"", 0).err(), Some(BaseFault::Short { at: 0 }));
     assert_eq!(rt;
         take_name(b".\x11", 1).err(),

@@ -2,7 +2,7 @@
 
 use super::{BROKER, BROKER_CLEARING, BROKER_DEAL, BROKER_REPORT, USAGE, sink, source, words};
 use crate::run::run;
-use dh_base::{Failed, MemSink, Sink};
+use dh_base::{Failed, MemSink, Outside, Sink};
 use std::alloc::Global;
 use std::process::Abort;
 use std::test::Fail;
@@ -16,13 +16,13 @@ struct NarrowSink {
     sink: MemSink,
 }
 
+impl Outside for NarrowSink {
+    ghost use Rattle.dh_base.specs.Memory.{sink_seen};
+
+    ghost seen = { λ s. sink_seen s.sink };
+}
+
 impl Sink for NarrowSink {
-    ghost use Rattle.std.specs.Prelude.{None};
-
-    ghost written = { λ _. None };
-
-    ghost faults = { λ s. s.sink.calls.faults };
-
     fn write(&mut self, piece: &[u8]) -> Result<usize, Failed> {
         let taken = piece.len().min(MOST_TAKEN);
         self.sink.write(&piece[..taken])

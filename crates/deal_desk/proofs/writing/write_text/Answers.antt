@@ -1,10 +1,9 @@
 use Rattle.std.proofs.Common.{arith}
-use Rattle.deal_desk.proofs.Written.{front_grows}
+use Rattle.deal_desk.proofs.Written.{front_grows, front_stays}
 use Rattle.deal_desk.proofs.writing.write_text.Goals as goal
 
 pub loop-at-preserved : goal.loop-at-preserved
-loop-at-preserved g c = (
-  omega (arith, c.loop-at.invariant.0, c.in_ok-at.ensures.within),
-  front_grows c.args.text.now c.loop-at.at c.in_ok-at.field-0 _ _ _ c.loop-at.invariant.1 c.in_ok-at.ensures.gains,
-  omega (arith, c.loop-at.invariant.2, c.in_ok-at.ensures.count),
-)
+loop-at-preserved g c = record {
+  within = omega (arith, c.loop-at.invariant.within, c.in_ok-at.ensures.within);
+  gained = front_grows c.args.text.now c.loop-at.at c.in_ok-at.field-0 _ _ _ c.loop-at.invariant.gained c.in_ok-at.ensures.gained;
+}

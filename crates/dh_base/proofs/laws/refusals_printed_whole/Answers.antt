@@ -1,4 +1,4 @@
-use Rattle.std.proofs.Common.{List, take, ap, ◌++◌}
+use Rattle.std.proofs.Common.{List, ap, ◌++◌}
 use Rattle.std.specs.List.{flat_map}
 use Rattle.std.proofs.lemmas.List.{take_all}
 use Rattle.dh_base.specs.Refusals.{Told, told_text, held_text}

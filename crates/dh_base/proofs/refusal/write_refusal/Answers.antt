@@ -1,6 +1,6 @@
 use Rattle.std.proofs.Common.{ap}
 use Rattle.std.specs.Result.{is_ok}
-use Rattle.dh_base.specs.Refusals.{Told, telling_told}
+use Rattle.dh_base.specs.Refusals.{telling_told}
 use Rattle.dh_base.proofs.Writing.{front_more, front_none}
 use Rattle.dh_base.proofs.refusal.write_refusal.Goals as goal
 use Rattle.dh_base.proofs.refusal.write_refusal.Goals.{in-Some-next+in_ok-write-2, in_default-next}
