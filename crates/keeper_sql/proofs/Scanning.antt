@@ -177,7 +177,6 @@ listed_in tab key val (x ∷ xs) found = elim (cases_Bool (is_on (tab, key) x)) 
       ]
 ]
 
-
 has_each : (xs : List CellRow) → IsAscending (λ a b. is_on (cell_in a) b ≡ false) xs → AllByRecursion (λ y. find cell_cmp (cell_in y) (map entry_in xs) ≡ Some y.val) xs
 has_each [] up = tt
 has_each (x ∷ xs) up = (rw (at_itself (cell_in x)) refl, go xs up.0 (has_each xs up.1))

@@ -36,7 +36,12 @@ count_in (pos n) = n
 count_in (negsuc n) = 0
 
 abbrev pub from_row : Row → CellRow
-from_row row = record { id = id_in (column row 0); tab = count_in (id_in (column row 1)); key = bytes (column row 2); val = bytes (column row 3) }
+from_row row = record {
+  id = id_in (column row 0);
+  tab = count_in (id_in (column row 1));
+  key = bytes (column row 2);
+  val = bytes (column row 3);
+}
 
 abbrev pub entry_in : CellRow → Cell × List ℕ
 entry_in x = (cell_in x, x.val)

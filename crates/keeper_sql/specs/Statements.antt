@@ -54,7 +54,8 @@ abbrev pub cell : Table
 cell = record {
   name = codes "cell";
   tree = 0;
-  columns = cell_column (codes "tab") Integer ∷ cell_column (codes "key") Bytes ∷ cell_column (codes "val") Bytes ∷ [];
+  columns = cell_column (codes "tab") Integer ∷ cell_column (codes "key") Bytes
+      ∷ cell_column (codes "val") Bytes ∷ [];
   key = None;
   primary = 1 ∷ 2 ∷ [];
   uniques = (1 ∷ 2 ∷ []) ∷ [];
@@ -85,7 +86,8 @@ abbrev pub stray_text : List ℕ
 stray_text = codes "SELECT tab FROM cell WHERE tab < 0 OR tab > 255"
 
 abbrev pub strays : List Term
-strays = op2 Or (op2 (Compare Lt Binary) (col 1 1) (lit (Int (pos 0)))) (op2 (Compare Gt Binary) (col 1 1) (lit (Int (pos 255)))) ∷ []
+strays = op2 Or (op2 (Compare Lt Binary) (col 1 1) (lit (Int (pos 0))))
+    (op2 (Compare Gt Binary) (col 1 1) (lit (Int (pos 255)))) ∷ []
 
 abbrev pub stray_query : Query
 stray_query = record {
@@ -104,7 +106,8 @@ abbrev pub is_stray : Row → Bool
 is_stray row = list_all (holds ([] ∷ row ∷ [])) strays
 
 abbrev pub wanted : List Term
-wanted = op2 (Compare Eq Binary) (col 1 1) (col 0 0) ∷ op2 (Compare Eq Binary) (col 1 2) (col 0 1) ∷ []
+wanted = op2 (Compare Eq Binary) (col 1 1) (col 0 0)
+    ∷ op2 (Compare Eq Binary) (col 1 2) (col 0 1) ∷ []
 
 abbrev pub get_query : Query
 get_query = record {
@@ -127,4 +130,5 @@ params_of tab key = Int tab ∷ Blob key ∷ []
 
 -- The rows show the value of each row of the cell, in some order.
 abbrev pub ShowsCell : ℤ → List ℕ → List Row → List Row → Type 0
-ShowsCell tab key cells rows = IsPermutation (map (λ r. column r 3 ∷ []) (filter (picks tab key) cells)) rows
+ShowsCell tab key cells rows = IsPermutation
+    (map (λ r. column r 3 ∷ []) (filter (picks tab key) cells)) rows

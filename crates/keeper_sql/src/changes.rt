@@ -14,13 +14,19 @@ use sqlite::{Alter, Connection, Error, Transaction};
 /// Takes a cell's value out.
 fn take_out<S: Alter>(tx: &mut Transaction<'_, S>, tab: u8, key: &[u8]) -> Result<(), Error>
     ensures same_reference { tx.new.conn.ghost_name ≡ tx.old.conn.ghost_name }
-    ensures gone { HasCleanDisk (state S.Store tx.new.conn.now) → IsTrue (state S.Store tx.old.conn.now).in_transaction → IsKept (state S.Store tx.old.conn.now).now
-        → OnOk result (GoesOnWith (state S.Store tx.new.conn.now) (finite.remove (tables_in (state S.Store tx.old.conn.now).now) (tab, key.now))) }
-    ensures inside { HasCleanDisk (state S.Store tx.new.conn.now) → IsTrue (state S.Store tx.old.conn.now).in_transaction
+    ensures gone { HasCleanDisk (state S.Store tx.new.conn.now)
+        → IsTrue (state S.Store tx.old.conn.now).in_transaction
+        → IsKept (state S.Store tx.old.conn.now).now
+        → OnOk result (GoesOnWith (state S.Store tx.new.conn.now)
+        (finite.remove (tables_in (state S.Store tx.old.conn.now).now) (tab, key.now))) }
+    ensures inside { HasCleanDisk (state S.Store tx.new.conn.now)
+        → IsTrue (state S.Store tx.old.conn.now).in_transaction
         → OnOk result (IsTrue (state S.Store tx.new.conn.now).in_transaction) }
-    ensures kept { HasCleanDisk (state S.Store tx.new.conn.now) → IsTrue (state S.Store tx.old.conn.now).in_transaction
+    ensures kept { HasCleanDisk (state S.Store tx.new.conn.now)
+        → IsTrue (state S.Store tx.old.conn.now).in_transaction
         → KeepsCommit (state S.Store tx.old.conn.now) (state S.Store tx.new.conn.now) }
-    ensures survives { Survives (state S.Store tx.old.conn.now) (state S.Store tx.new.conn.now) (λ _. ⊥) }
+    ensures survives { Survives (state S.Store tx.old.conn.now) (state S.Store tx.new.conn.now)
+        (λ _. ⊥) }
 {
     run_delete(tx, tab, key)?;
     Ok(())
@@ -34,13 +40,20 @@ fn put_in<S: Alter>(
     val: &[u8],
 ) -> Result<(), Error>
     ensures same_reference { tx.new.conn.ghost_name ≡ tx.old.conn.ghost_name }
-    ensures there { HasCleanDisk (state S.Store tx.new.conn.now) → IsTrue (state S.Store tx.old.conn.now).in_transaction → IsKept (state S.Store tx.old.conn.now).now
-        → OnOk result (GoesOnWith (state S.Store tx.new.conn.now) (finite.insert (tables_in (state S.Store tx.old.conn.now).now) (tab, key.now) val.now)) }
-    ensures inside { HasCleanDisk (state S.Store tx.new.conn.now) → IsTrue (state S.Store tx.old.conn.now).in_transaction
+    ensures there { HasCleanDisk (state S.Store tx.new.conn.now)
+        → IsTrue (state S.Store tx.old.conn.now).in_transaction
+        → IsKept (state S.Store tx.old.conn.now).now
+        → OnOk result (GoesOnWith (state S.Store tx.new.conn.now)
+        (finite.insert (tables_in (state S.Store tx.old.conn.now).now)
+        (tab, key.now) val.now)) }
+    ensures inside { HasCleanDisk (state S.Store tx.new.conn.now)
+        → IsTrue (state S.Store tx.old.conn.now).in_transaction
         → OnOk result (IsTrue (state S.Store tx.new.conn.now).in_transaction) }
-    ensures kept { HasCleanDisk (state S.Store tx.new.conn.now) → IsTrue (state S.Store tx.old.conn.now).in_transaction
+    ensures kept { HasCleanDisk (state S.Store tx.new.conn.now)
+        → IsTrue (state S.Store tx.old.conn.now).in_transaction
         → KeepsCommit (state S.Store tx.old.conn.now) (state S.Store tx.new.conn.now) }
-    ensures survives { Survives (state S.Store tx.old.conn.now) (state S.Store tx.new.conn.now) (λ _. ⊥) }
+    ensures survives { Survives (state S.Store tx.old.conn.now) (state S.Store tx.new.conn.now)
+        (λ _. ⊥) }
 {
     run_put(tx, tab, key, val)?;
     Ok(())
@@ -49,13 +62,19 @@ fn put_in<S: Alter>(
 /// Makes one change.
 fn make<S: Alter>(tx: &mut Transaction<'_, S>, change: &Change) -> Result<(), Error>
     ensures same_reference { tx.new.conn.ghost_name ≡ tx.old.conn.ghost_name }
-    ensures made { HasCleanDisk (state S.Store tx.new.conn.now) → IsTrue (state S.Store tx.old.conn.now).in_transaction → IsKept (state S.Store tx.old.conn.now).now
-        → OnOk result (GoesOnWith (state S.Store tx.new.conn.now) (after_change change.now (tables_in (state S.Store tx.old.conn.now).now))) }
-    ensures inside { HasCleanDisk (state S.Store tx.new.conn.now) → IsTrue (state S.Store tx.old.conn.now).in_transaction
+    ensures made { HasCleanDisk (state S.Store tx.new.conn.now)
+        → IsTrue (state S.Store tx.old.conn.now).in_transaction
+        → IsKept (state S.Store tx.old.conn.now).now
+        → OnOk result (GoesOnWith (state S.Store tx.new.conn.now)
+        (after_change change.now (tables_in (state S.Store tx.old.conn.now).now))) }
+    ensures inside { HasCleanDisk (state S.Store tx.new.conn.now)
+        → IsTrue (state S.Store tx.old.conn.now).in_transaction
         → OnOk result (IsTrue (state S.Store tx.new.conn.now).in_transaction) }
-    ensures kept { HasCleanDisk (state S.Store tx.new.conn.now) → IsTrue (state S.Store tx.old.conn.now).in_transaction
+    ensures kept { HasCleanDisk (state S.Store tx.new.conn.now)
+        → IsTrue (state S.Store tx.old.conn.now).in_transaction
         → KeepsCommit (state S.Store tx.old.conn.now) (state S.Store tx.new.conn.now) }
-    ensures survives { Survives (state S.Store tx.old.conn.now) (state S.Store tx.new.conn.now) (λ _. ⊥) }
+    ensures survives { Survives (state S.Store tx.old.conn.now) (state S.Store tx.new.conn.now)
+        (λ _. ⊥) }
 {
     match change {
         Change::Put { tab, key, val } => put_in(tx, *tab, key.as_slice(), val.as_slice()),
@@ -66,13 +85,19 @@ fn make<S: Alter>(tx: &mut Transaction<'_, S>, change: &Change) -> Result<(), Er
 /// Makes the changes, one after another.
 fn make_each<S: Alter>(tx: &mut Transaction<'_, S>, changes: &[Change]) -> Result<(), Error>
     ensures same_reference { tx.new.conn.ghost_name ≡ tx.old.conn.ghost_name }
-    ensures made { HasCleanDisk (state S.Store tx.new.conn.now) → IsTrue (state S.Store tx.old.conn.now).in_transaction → IsKept (state S.Store tx.old.conn.now).now
-        → OnOk result (GoesOnWith (state S.Store tx.new.conn.now) (after_batch changes.now (tables_in (state S.Store tx.old.conn.now).now))) }
-    ensures inside { HasCleanDisk (state S.Store tx.new.conn.now) → IsTrue (state S.Store tx.old.conn.now).in_transaction
+    ensures made { HasCleanDisk (state S.Store tx.new.conn.now)
+        → IsTrue (state S.Store tx.old.conn.now).in_transaction
+        → IsKept (state S.Store tx.old.conn.now).now
+        → OnOk result (GoesOnWith (state S.Store tx.new.conn.now)
+        (after_batch changes.now (tables_in (state S.Store tx.old.conn.now).now))) }
+    ensures inside { HasCleanDisk (state S.Store tx.new.conn.now)
+        → IsTrue (state S.Store tx.old.conn.now).in_transaction
         → OnOk result (IsTrue (state S.Store tx.new.conn.now).in_transaction) }
-    ensures kept { HasCleanDisk (state S.Store tx.new.conn.now) → IsTrue (state S.Store tx.old.conn.now).in_transaction
+    ensures kept { HasCleanDisk (state S.Store tx.new.conn.now)
+        → IsTrue (state S.Store tx.old.conn.now).in_transaction
         → KeepsCommit (state S.Store tx.old.conn.now) (state S.Store tx.new.conn.now) }
-    ensures survives { Survives (state S.Store tx.old.conn.now) (state S.Store tx.new.conn.now) (λ _. ⊥) }
+    ensures survives { Survives (state S.Store tx.old.conn.now) (state S.Store tx.new.conn.now)
+        (λ _. ⊥) }
 {
     for change in changes {
         make(tx, change)?;
@@ -84,10 +109,13 @@ fn make_each<S: Alter>(tx: &mut Transaction<'_, S>, changes: &[Change]) -> Resul
 fn commit_all<S: Alter>(conn: &mut Connection<S>, changes: &[Change]) -> Result<(), Error>
     requires { conn.old.in_transaction ≡ false }
     ensures all { HasCleanDisk (state S.Store conn.new) → IsKept (state S.Store conn.old).now
-        → OnOk result (Becomes (state S.Store conn.new) (after_batch changes.now (tables_in (state S.Store conn.old).now))) }
-    ensures none { HasCleanDisk (state S.Store conn.new) → IsKept (state S.Store conn.old).now → IsTrue (state S.Store conn.new).is_open
+        → OnOk result (Becomes (state S.Store conn.new)
+        (after_batch changes.now (tables_in (state S.Store conn.old).now))) }
+    ensures none { HasCleanDisk (state S.Store conn.new) → IsKept (state S.Store conn.old).now
+        → IsTrue (state S.Store conn.new).is_open
         → OnErr result ((state S.Store conn.new).now ≡ (state S.Store conn.old).committed) }
-    ensures was_open { HasCleanDisk (state S.Store conn.new) → IsTrue (state S.Store conn.new).is_open → IsTrue (state S.Store conn.old).is_open }
+    ensures was_open { HasCleanDisk (state S.Store conn.new)
+        → IsTrue (state S.Store conn.new).is_open → IsTrue (state S.Store conn.old).is_open }
     ensures ready { conn.new.in_transaction ≡ false }
     ensures clean { HasCleanDisk (state S.Store conn.new) → HasCleanDisk (state S.Store conn.old) }
 {
@@ -97,16 +125,17 @@ fn commit_all<S: Alter>(conn: &mut Connection<S>, changes: &[Change]) -> Result<
 }
 
 /// Makes all changes in one transaction, or leaves the map as it is.
-pub(crate) fn change<S: Alter>(
-    conn: &mut Connection<S>,
-    changes: &[Change],
-) -> Result<(), Error>
+pub(crate) fn change<S: Alter>(conn: &mut Connection<S>, changes: &[Change]) -> Result<(), Error>
     requires { conn.old.in_transaction ≡ false }
-    ensures all { IsTrue (state S.Store conn.new).is_open → (IsTrue (state S.Store conn.old).is_open → IsKept (state S.Store conn.old).now)
-        → OnOk result (Becomes (state S.Store conn.new) (after_batch changes.now (tables_in (state S.Store conn.old).now))) }
-    ensures none { IsTrue (state S.Store conn.new).is_open → (IsTrue (state S.Store conn.old).is_open → IsKept (state S.Store conn.old).now)
+    ensures all { IsTrue (state S.Store conn.new).is_open
+        → (IsTrue (state S.Store conn.old).is_open → IsKept (state S.Store conn.old).now)
+        → OnOk result (Becomes (state S.Store conn.new)
+        (after_batch changes.now (tables_in (state S.Store conn.old).now))) }
+    ensures none { IsTrue (state S.Store conn.new).is_open
+        → (IsTrue (state S.Store conn.old).is_open → IsKept (state S.Store conn.old).now)
         → OnErr result ((state S.Store conn.new).now ≡ (state S.Store conn.old).now) }
-    ensures was_open { IsTrue (state S.Store conn.new).is_open → IsTrue (state S.Store conn.old).is_open }
+    ensures was_open { IsTrue (state S.Store conn.new).is_open
+        → IsTrue (state S.Store conn.old).is_open }
     ensures idle { conn.new.in_transaction ≡ false }
 {
     let _settled = conn.is_autocommit();

@@ -15,13 +15,17 @@ use std::alloc::Global;
 /// The rows that show a cell's value.
 fn value_rows<S: Alter>(conn: &mut Connection<S>, tab: u8, key: &[u8]) -> Result<Vec<Row>, Error>
     ensures shows { HasCleanDisk (state S.Store conn.new) → IsKept (state S.Store conn.old).now
-        → IfOk result (λ rows. rows.items ≡ shown_value (finite.get (tables_in (state S.Store conn.old).now) (tab, key.now))) }
+        → IfOk result (λ rows. rows.items ≡ shown_value
+        (finite.get (tables_in (state S.Store conn.old).now) (tab, key.now))) }
     ensures unchanged { HasCleanDisk (state S.Store conn.new) → IsKept (state S.Store conn.old).now
         → OnOk result (IsUnchanged (state S.Store conn.old) (state S.Store conn.new)) }
-    ensures was_open { HasCleanDisk (state S.Store conn.new) → IsTrue (state S.Store conn.new).is_open → IsTrue (state S.Store conn.old).is_open }
+    ensures was_open { HasCleanDisk (state S.Store conn.new)
+        → IsTrue (state S.Store conn.new).is_open → IsTrue (state S.Store conn.old).is_open }
     ensures stays { HasCleanDisk (state S.Store conn.new) → IsKept (state S.Store conn.old).now
-        → (IsTrue (state S.Store conn.old).is_open → (state S.Store conn.old).now ≡ (state S.Store conn.old).committed)
-        → IsTrue (state S.Store conn.new).is_open → (state S.Store conn.new).now ≡ (state S.Store conn.old).now }
+        → (IsTrue (state S.Store conn.old).is_open
+        → (state S.Store conn.old).now ≡ (state S.Store conn.old).committed)
+        → IsTrue (state S.Store conn.new).is_open
+        → (state S.Store conn.new).now ≡ (state S.Store conn.old).now }
     ensures idle { conn.old.in_transaction ≡ false → conn.new.in_transaction ≡ false }
 {
     run_get(conn, tab, key)
@@ -30,13 +34,17 @@ fn value_rows<S: Alter>(conn: &mut Connection<S>, tab: u8, key: &[u8]) -> Result
 /// The rows of a table, in ascending order of their keys, as the selection shows them.
 fn table_rows<S: Alter>(conn: &mut Connection<S>, tab: u8) -> Result<Vec<Row>, Error>
     ensures shows { HasCleanDisk (state S.Store conn.new) → IsKept (state S.Store conn.old).now
-        → IfOk result (λ rows. rows.items ≡ map scan_row (rows_of tab (tables_in (state S.Store conn.old).now))) }
+        → IfOk result (λ rows. rows.items ≡ map scan_row
+        (rows_of tab (tables_in (state S.Store conn.old).now))) }
     ensures unchanged { HasCleanDisk (state S.Store conn.new) → IsKept (state S.Store conn.old).now
         → OnOk result (IsUnchanged (state S.Store conn.old) (state S.Store conn.new)) }
-    ensures was_open { HasCleanDisk (state S.Store conn.new) → IsTrue (state S.Store conn.new).is_open → IsTrue (state S.Store conn.old).is_open }
+    ensures was_open { HasCleanDisk (state S.Store conn.new)
+        → IsTrue (state S.Store conn.new).is_open → IsTrue (state S.Store conn.old).is_open }
     ensures stays { HasCleanDisk (state S.Store conn.new) → IsKept (state S.Store conn.old).now
-        → (IsTrue (state S.Store conn.old).is_open → (state S.Store conn.old).now ≡ (state S.Store conn.old).committed)
-        → IsTrue (state S.Store conn.new).is_open → (state S.Store conn.new).now ≡ (state S.Store conn.old).now }
+        → (IsTrue (state S.Store conn.old).is_open
+        → (state S.Store conn.old).now ≡ (state S.Store conn.old).committed)
+        → IsTrue (state S.Store conn.new).is_open
+        → (state S.Store conn.new).now ≡ (state S.Store conn.old).now }
     ensures idle { conn.old.in_transaction ≡ false → conn.new.in_transaction ≡ false }
 {
     run_scan(conn, tab)
@@ -85,10 +93,14 @@ pub(crate) fn look<S: Alter>(
     key: &[u8],
 ) -> Result<Option<List<u8>>, Error>
     requires { conn.old.in_transaction ≡ false }
-    ensures found { IsTrue (state S.Store conn.new).is_open → (IsTrue (state S.Store conn.old).is_open → IsKept (state S.Store conn.old).now)
-        → IfOk result (λ val. val ≡ finite.get (tables_in (state S.Store conn.old).now) (tab, key.now)) }
-    ensures stays { IsTrue (state S.Store conn.new).is_open → (IsTrue (state S.Store conn.old).is_open → IsKept (state S.Store conn.old).now)
-        → IsTrue (state S.Store conn.old).is_open × ((state S.Store conn.new).now ≡ (state S.Store conn.old).now) }
+    ensures found { IsTrue (state S.Store conn.new).is_open
+        → (IsTrue (state S.Store conn.old).is_open → IsKept (state S.Store conn.old).now)
+        → IfOk result (λ val. val ≡ finite.get (tables_in (state S.Store conn.old).now)
+        (tab, key.now)) }
+    ensures stays { IsTrue (state S.Store conn.new).is_open
+        → (IsTrue (state S.Store conn.old).is_open → IsKept (state S.Store conn.old).now)
+        → IsTrue (state S.Store conn.old).is_open
+        × ((state S.Store conn.new).now ≡ (state S.Store conn.old).now) }
     ensures idle { conn.new.in_transaction ≡ false }
 {
     let _settled = conn.is_autocommit();
@@ -103,10 +115,13 @@ pub(crate) fn list<S: Alter>(
     tab: u8,
 ) -> Result<List<keeper_core::Row>, Error>
     requires { conn.old.in_transaction ≡ false }
-    ensures lists { IsTrue (state S.Store conn.new).is_open → (IsTrue (state S.Store conn.old).is_open → IsKept (state S.Store conn.old).now)
+    ensures lists { IsTrue (state S.Store conn.new).is_open
+        → (IsTrue (state S.Store conn.old).is_open → IsKept (state S.Store conn.old).now)
         → IfOk result (λ rows. rows ≡ rows_of tab (tables_in (state S.Store conn.old).now)) }
-    ensures stays { IsTrue (state S.Store conn.new).is_open → (IsTrue (state S.Store conn.old).is_open → IsKept (state S.Store conn.old).now)
-        → IsTrue (state S.Store conn.old).is_open × ((state S.Store conn.new).now ≡ (state S.Store conn.old).now) }
+    ensures stays { IsTrue (state S.Store conn.new).is_open
+        → (IsTrue (state S.Store conn.old).is_open → IsKept (state S.Store conn.old).now)
+        → IsTrue (state S.Store conn.old).is_open
+        × ((state S.Store conn.new).now ≡ (state S.Store conn.old).now) }
     ensures idle { conn.new.in_transaction ≡ false }
 {
     let _settled = conn.is_autocommit();

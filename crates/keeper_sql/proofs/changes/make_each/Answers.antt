@@ -29,6 +29,6 @@ loop-change-preserved g c =
           let next : drop c.loop-change.change-index c.args.changes.now ≡ c.change-item.result ∷ drop (c.loop-change.change-index + 1) c.args.changes.now = search (rules, drop_more) in (
             made.kept,
             ap (after_batch (drop (c.loop-change.change-index + 1) c.args.changes.now)) made.map_is
-            ∙ sym (ap (λ cs. after_batch cs (tables_in (state g.S.Store mid).now)) next) ∙ so_far.1,
+                ∙ sym (ap (λ cs. after_batch cs (tables_in (state g.S.Store mid).now)) next) ∙ so_far.1,
           ),
     )
