@@ -3,6 +3,8 @@
 ghost use Rattle.std.specs.Prelude.{◌≡◌, ◌≤◌, length};
 ghost use Rattle.std.specs.Result.{IsErrOf};
 ghost use Rattle.keeper_core.specs.Knowing.{IsUnarmed};
+ghost use Rattle.keeper_core.specs.Memory.{known_of};
+ghost use Rattle.key_ring.specs.UsedTexts.{IsBacked};
 
 use super::{IDENT, SEED};
 use crate::{Envelope, KeySpec, Said, SignFault, Signer, check};
@@ -37,30 +39,78 @@ fn are_same(env: &Envelope, other: &Envelope) -> bool {
         && write_sig(&env.sig).as_slice() == write_sig(&other.sig).as_slice()
 }
 
-/// Two texts are signed, a key is held back, and the third text meets the stop. That many texts are signed
-/// once the keeper and the signer are started again.
+/// Signs a text, which is to be signed by that key.
+fn sign_by(
+    rt: &impl Abort,
+    signer: &mut Signer,
+    keeper: &mut MemKeeper,
+    text: &[u8],
+    reserve: u16,
+    q: u32,
+) -> Result<Envelope, Fail>
+    requires reserve { reserve ≤ signer.old.spec.size }
+    requires text { length text.now ≤ 16384 }
+    requires backed { IsBacked (known_of keeper.old) signer.old.texts }
+    ensures backed { IsBacked (known_of keeper.new) signer.new.texts }
+    ensures spec { signer.new.spec ≡ signer.old.spec }
+{
+    let env = signer.sign(keeper, text, reserve)?;
+    assert_eq!(rt; env.q, q);
+    Ok(env)
+}
+
+/// Asks for a signature, which is to be refused so.
+fn refuse(
+    rt: &impl Abort,
+    signer: &mut Signer,
+    keeper: &mut MemKeeper,
+    text: &[u8],
+    reserve: u16,
+    fault: SignFault,
+)
+    requires reserve { reserve ≤ signer.old.spec.size }
+    requires text { length text.now ≤ 16384 }
+    requires backed { IsBacked (known_of keeper.old) signer.old.texts }
+    ensures backed { IsBacked (known_of keeper.new) signer.new.texts }
+    ensures spec { signer.new.spec ≡ signer.old.spec }
+{
+    let refused = signer.sign(keeper, text, reserve).err();
+    assert_eq!(rt; refused, Some(fault));
+}
+
+/// Two texts are signed, a key is held back, and the third text meets the stop.
+fn sign_to_stop(
+    rt: &impl Abort,
+    signer: &mut Signer,
+    keeper: &mut MemKeeper,
+    stop: Arm,
+) -> Result<Envelope, Fail>
+    requires size { signer.old.spec.size ≡ 3 }
+    requires backed { IsBacked (known_of keeper.old) signer.old.texts }
+{
+    let first = sign_by(rt, signer, keeper, b"a", 1, 0)?;
+    sign_by(rt, signer, keeper, b"b", 1, 1)?;
+    let spent = SignFault::KeysSpent { used: 2, size: 3 };
+    refuse(rt, signer, keeper, b"c", 1, spent);
+    let again = sign_by(rt, signer, keeper, b"a", 1, 0)?;
+    assert!(rt; are_same(&again, &first));
+    keeper.arm(stop);
+    let fault = StoreFault::Keeper;
+    refuse(rt, signer, keeper, b"c", 0, SignFault::Store { fault });
+    Ok(first)
+}
+
+/// The third text meets the stop. That many texts are signed once the keeper and the signer are started again.
 fn check_stop(rt: &impl Abort, alloc: Global, stop: Arm, used: u16) -> Result<(), Fail> {
     let spec = three_keys();
     let mut keeper = MemKeeper::new(alloc);
     let mut signer = Signer::load(alloc, &spec, &mut keeper)?;
-    let first = signer.sign(&mut keeper, b"a", 1)?;
-    assert_eq!(rt; first.q, 0);
-    let second = signer.sign(&mut keeper, b"b", 1)?;
-    assert_eq!(rt; second.q, 1);
-    let spent = signer.sign(&mut keeper, b"c", 1).err();
-    assert_eq!(rt; spent, Some(SignFault::KeysSpent { used: 2, size: 3 }));
-    let again = signer.sign(&mut keeper, b"a", 1)?;
-    assert!(rt; are_same(&again, &first));
-    keeper.arm(stop);
-    let stopped = signer.sign(&mut keeper, b"c", 0).err();
-    let fault = StoreFault::Keeper;
-    assert_eq!(rt; stopped, Some(SignFault::Store { fault }));
+    let first = sign_to_stop(rt, &mut signer, &mut keeper, stop)?;
     keeper.restart();
     let mut later = Signer::load(alloc, &spec, &mut keeper)?;
     assert_eq!(rt; later.used(), used);
-    let third = later.sign(&mut keeper, b"c", 0)?;
-    assert_eq!(rt; third.q, 2);
-    let again = later.sign(&mut keeper, b"a", 0)?;
+    sign_by(rt, &mut later, &mut keeper, b"c", 0, 2)?;
+    let again = sign_by(rt, &mut later, &mut keeper, b"a", 0, 0)?;
     assert!(rt; are_same(&again, &first));
     Ok(())
 }
