@@ -15,8 +15,7 @@ use deal_core::{Deal, Step};
 
 /// Whether the deal asks more of the pair than the limits allow.
 fn is_over(deal: &Deal, party: u16, gives: &[Limit], pair: &Pair) -> bool
-    requires party { party < length deal.now.parties }
-    requires few { length gives.now < 2 ^ 32 }
+    requires { party < length deal.now.parties }
     ensures { result ≡ is_over deal.now.steps party gives.now pair.now }
 {
     let asked = need(deal, party, &pair.ledger, &pair.asset);
@@ -41,8 +40,7 @@ fn earlier_over(
     step: &Step,
     found: Option<Pair>,
 ) -> Option<Pair>
-    requires party { party < length deal.now.parties }
-    requires few { length gives.now < 2 ^ 32 }
+    requires { party < length deal.now.parties }
     ensures { result ≡ earlier_over deal.now.steps party gives.now step.now found }
 {
     let pair = Pair::of(step);
@@ -55,8 +53,7 @@ fn earlier_over(
 
 /// The first pair of the deal, in ascending order, of which it asks more than the limits allow.
 fn first_over(deal: &Deal, party: u16, gives: &[Limit]) -> Option<Pair>
-    requires party { party < length deal.now.parties }
-    requires few { length gives.now < 2 ^ 32 }
+    requires { party < length deal.now.parties }
     ensures some { IfSome result (IsFirstOver deal.now.steps party gives.now) }
     ensures none { IfNone result (NoneOver deal.now.steps party gives.now) }
 {
@@ -90,8 +87,7 @@ fn first_under<'a>(deal: &Deal, party: u16, gets: &'a [Limit]) -> Option<&'a Lim
 
 /// Checks that the deal keeps the party's terms, and answers the first limit that it breaks: first those of what is given.
 pub fn check_terms(deal: &Deal, party: u16, terms: &Terms) -> Result<(), TermFault>
-    requires party { party < length deal.now.parties }
-    requires few { length terms.now.gives < 2 ^ 32 }
+    requires { party < length deal.now.parties }
     ensures { ChecksTerms deal.now.steps party terms.now result }
 {
     if let Some(pair) = first_over(deal, party, terms.gives.as_slice()) {

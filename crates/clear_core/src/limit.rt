@@ -32,7 +32,6 @@ impl Limit {
 
 /// What the limits allow of the asset on the ledger together.
 pub(crate) fn allowed(limits: &[Limit], ledger: &Name, asset: &Name) -> u128
-    requires { length limits.now < 2 ^ 32 }
     ensures { result ≡ allowed_of limits.now ledger.now asset.now }
 {
     let mut sum: u128 = 0;

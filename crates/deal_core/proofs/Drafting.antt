@@ -12,17 +12,14 @@ use Rattle.deal_core.specs.DealText.{name_in, party_name}
 use Rattle.deal_core.specs.Kept.{AreNewBehind, is_on, new_ledgers, ledger_count, IsStepOf, IsDraft}
 use Rattle.deal_core.specs.declared.deal_line.DealLine.{DealLine}
 use Rattle.deal_core.specs.declared.deal_line.DealLine.TheVariants as line
-use Rattle.deal_core.specs.Drafts.{Draft, said_fault, is_empty, broken_if, party_fault, is_ninth, is_party, step_fault, index_in, with_indices}
+use Rattle.line_text.proofs.Faults.{unbroken}
+use Rattle.deal_core.specs.Drafts.{Draft, said_fault, is_empty, party_fault, is_ninth, is_party, step_fault, index_in, with_indices}
 use Rattle.deal_core.specs.declared.party.Party.{Party}
 use Rattle.deal_core.specs.declared.step.Step.{Step}
 use Rattle.deal_core.specs.declared.deal_line.NamedStep.{NamedStep}
 use Rattle.deal_core.specs.declared.deal_fault.DealFault.{DealFault}
 
 -- ---- tests that found no fault
-
-pub unbroken : (broken : Bool) (fault : DealFault) (other : Option DealFault) → broken_if broken fault other ≡ None → (broken ≡ false) × (other ≡ None)
-unbroken true fault other h = absurd cc
-unbroken false fault other h = (refl, h)
 
 -- what a step without a fault is
 pub record IsGoodStep (parties : List Party) (steps : List Step) (step : NamedStep) : Type 0 where

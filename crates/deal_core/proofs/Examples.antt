@@ -8,7 +8,7 @@ use Rattle.line_text.specs.Lines.{spelled_lines}
 use Rattle.line_text.specs.Reading.{name_word, amount_word}
 use Rattle.deal_core.specs.Deals.{matrix_of, Leads, IsConnected, IsJoined, IsFirstApart}
 use Rattle.deal_core.specs.DealText.{deal_text}
-use Rattle.deal_core.specs.IdWords.{id_word}
+use Rattle.line_text.specs.Reading.{id_word}
 use Rattle.deal_core.specs.Said.{deal_after, house_after, party_after, step_after}
 use Rattle.deal_core.specs.Drafts.{Draft, reading_of}
 use Rattle.deal_core.specs.declared.deal_fault.DealFault.{DealFault}

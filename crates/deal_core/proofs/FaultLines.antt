@@ -4,7 +4,8 @@ use Rattle.std.specs.List.{list_any}
 use Rattle.std.specs.Str.{bytes_eq}
 use Rattle.line_text.specs.Lines.{Line}
 use Rattle.deal_core.specs.Deals.{is_named, has_account, total_of}
-use Rattle.deal_core.specs.Drafts.{Draft, broken_if, is_party, is_ninth, may_stand, rule_fault, said_fault, lines_in, after_line}
+use Rattle.line_text.specs.Faults.{broken_if}
+use Rattle.deal_core.specs.Drafts.{Draft, is_party, is_ninth, may_stand, rule_fault, said_fault, lines_in, after_line}
 use Rattle.deal_core.specs.Said.{said_by}
 use Rattle.deal_core.specs.Positions.{IsFirstFault, line_told}
 use Rattle.deal_core.specs.declared.deal_fault.DealFault.{DealFault}

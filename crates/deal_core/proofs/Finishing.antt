@@ -9,7 +9,7 @@ use Rattle.deal_core.specs.Drafts.{Draft, is_empty, whole, reading_of}
 use Rattle.deal_core.specs.Reading.{IsWholeText, IsApart}
 use Rattle.deal_core.specs.declared.party.Party.{Party}
 use Rattle.deal_core.specs.declared.step.Step.{Step}
-use Rattle.deal_core.proofs.WordReading.{some_is}
+use Rattle.line_text.proofs.WordReading.{some_is}
 
 abbrev pub made : List ℕ → Id → List Party → List Step → Draft
 made name house parties steps = record { name = Some name; house = Some house; parties = parties; steps = steps }

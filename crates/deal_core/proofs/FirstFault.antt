@@ -11,7 +11,7 @@ use Rattle.deal_core.specs.declared.deal_fault.DealFault.{DealFault}
 use Rattle.deal_core.specs.declared.deal_fault.DealFault.TheVariants.{BadLine}
 use Rattle.deal_core.specs.declared.deal_line.DealLine.{DealLine}
 use Rattle.deal_core.specs.declared.deal_line.DealLine.TheVariants as line
-use Rattle.deal_core.proofs.Drafting.{unbroken}
+use Rattle.line_text.proofs.Faults.{unbroken}
 
 unless_some : (o : Option DealFault) (fault : DealFault) (rest : Result Draft DealFault) → o ≡ Some fault → unless o rest ≡ Err fault
 unless_some o fault rest e = rw e refl

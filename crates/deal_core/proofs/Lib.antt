@@ -3,8 +3,7 @@ mod Examples
 pub mod FaultLines
 pub mod Finishing
 pub mod FirstFault
-pub mod HexAgain
-pub mod HexWords
+pub mod Keywords
 pub mod OneAnswer
 pub mod OneDeal
 pub mod SaidAgain
@@ -13,4 +12,3 @@ pub mod Sums
 pub mod TextAgain
 pub mod TextReading
 pub mod Walks
-pub mod WordReading

@@ -12,7 +12,7 @@ use Rattle.deal_core.specs.declared.deal_fault.DealFault.{DealFault}
 use Rattle.deal_core.specs.declared.deal_fault.DealFault.TheVariants.{BadLine, PartyTwice, UnknownParty, SelfStep, ZeroAmount, TooMany, SumTooLarge, NotConnected, NoMemory}
 use Rattle.deal_core.specs.declared.party.Party.{Party}
 use Rattle.deal_core.specs.declared.step.Step.{Step}
-use Rattle.deal_core.proofs.WordReading.{some_is}
+use Rattle.line_text.proofs.WordReading.{some_is}
 
 pub ok_same : (d e : Draft) (r : Result Draft DealFault) → r ≡ Ok d → r ≡ Ok e → d ≡ e
 ok_same d e r f g = cc

@@ -12,10 +12,11 @@ use Rattle.std.proofs.lemmas.Slice.Eq.{bytes_eq-Decides}
 use Rattle.dh_base.specs.Names.{is_name}
 use Rattle.dh_base.specs.declared.id.Id.{Id}
 use Rattle.line_text.specs.Bytes.{lacks}
+use Rattle.line_text.specs.IdWords.{IsId}
 use Rattle.line_text.specs.Lines.{Line, lines_of, ended_line, spelled_lines}
 use Rattle.line_text.specs.Words.{spelled_words}
 use Rattle.deal_core.specs.Deals.{DealTold, is_of, is_named, amount_if, total_of, party_where}
-use Rattle.deal_core.specs.DealText.{party_name, party_words, step_words, deal_words, deal_text, IsId, IsSpellable}
+use Rattle.deal_core.specs.DealText.{party_name, party_words, step_words, deal_words, deal_text, IsSpellable}
 use Rattle.deal_core.specs.Kept.{AreNewBehind, is_on, new_ledgers, ledger_count, IsStepOf, IsDraft, IsDeal}
 use Rattle.deal_core.specs.Drafts.{Draft, no_lines, is_empty, party_fault, is_party, step_fault, said_fault, index_in, with_indices, with_line, reading_behind, reading_of}
 use Rattle.deal_core.specs.Reading.{draft_of}
@@ -26,9 +27,10 @@ use Rattle.deal_core.specs.declared.deal_line.DealLine.{DealLine}
 use Rattle.deal_core.specs.declared.deal_line.DealLine.TheVariants as line
 use Rattle.deal_core.proofs.Drafting.{IsGoodStep, chosen, otherwise}
 use Rattle.deal_core.proofs.Finishing.{made}
-use Rattle.deal_core.proofs.WordReading.{Words}
+use Rattle.line_text.proofs.Joining.{lines_of-spelled}
+use Rattle.line_text.proofs.WordReading.{Words}
 use Rattle.deal_core.proofs.SaidReading.{said_words}
-use Rattle.deal_core.proofs.SaidAgain.{PlainLaws, IsGoodLine, line_again, line_lacks}
+use Rattle.deal_core.proofs.SaidAgain.{IsGoodLine, line_again, line_lacks}
 
 -- ---- the names of parties
 
@@ -124,18 +126,18 @@ step_again parties step h from to =
 line_of : DealLine → Line
 line_of said = ended_line (spelled_words (said_words said))
 
-read_one : PlainLaws → (draft : Draft) (said : DealLine) (rest : List Line) → IsGoodLine said → said_fault draft (Some said) ≡ None → reading_behind draft (line_of said ∷ rest) ≡ reading_behind (with_line draft said) rest
+read_one : (draft : Draft) (said : DealLine) (rest : List Line) → IsGoodLine said → said_fault draft (Some said) ≡ None → reading_behind draft (line_of said ∷ rest) ≡ reading_behind (with_line draft said) rest
 unfolding line_of
-read_one laws draft said rest good none = rw (line_again laws said good) (rw none refl)
+read_one draft said rest good none = rw (line_again said good) (rw none refl)
 
-read_parties : PlainLaws → (n : List ℕ) (h : Id) (front parties : List Party) (rest : List Line) → AreNewBehind front parties → length front + length parties ≤ 16 → AllByRecursion (λ party. IsTrue (is_name party.name) × IsId party.account) parties → reading_behind (made n h front []) (map line_of (map line.Party parties) ++ rest) ≡ reading_behind (made n h (front ++ parties) []) rest
-read_parties laws n h front [] rest new few good = ap (λ (ps : List Party). reading_behind (made n h ps []) rest) (sym (append-nil front))
-read_parties laws n h front (party ∷ parties) rest new few good =
+read_parties : (n : List ℕ) (h : Id) (front parties : List Party) (rest : List Line) → AreNewBehind front parties → length front + length parties ≤ 16 → AllByRecursion (λ party. IsTrue (is_name party.name) × IsId party.account) parties → reading_behind (made n h front []) (map line_of (map line.Party parties) ++ rest) ≡ reading_behind (made n h (front ++ parties) []) rest
+read_parties n h front [] rest new few good = ap (λ (ps : List Party). reading_behind (made n h ps []) rest) (sym (append-nil front))
+read_parties n h front (party ∷ parties) rest new few good =
     let room : leb 16 (length front) ≡ false = lt-leb 16 (length front) (omega (arith, few)) in
     let none : (k : ℕ) → party_fault k front party ≡ None = λ k. rw (new.0, new.1, room) refl in
     let joined : (front ++ party ∷ []) ++ parties ≡ front ++ party ∷ parties = append_assoc front (party ∷ []) parties in
-    read_one laws (made n h front []) (line.Party party) (map line_of (map line.Party parties) ++ rest) good.0 (none _)
-    ∙ (read_parties laws n h (front ++ party ∷ []) parties rest new.2 (omega (arith, few, length-append front (party ∷ []))) good.1
+    read_one (made n h front []) (line.Party party) (map line_of (map line.Party parties) ++ rest) good.0 (none _)
+    ∙ (read_parties n h (front ++ party ∷ []) parties rest new.2 (omega (arith, few, length-append front (party ∷ []))) good.1
     ∙ ap (λ (ps : List Party). reading_behind (made n h ps []) rest) joined)
 
 says_step : List Party → Step → DealLine
@@ -144,13 +146,13 @@ says_step parties step = line.Step (named parties step)
 abbrev NamesGood : List Party → Type 0
 NamesGood parties = (j : ℕ) → j < length parties → IsTrue (is_name (party_name parties j))
 
-read_steps : PlainLaws → (n : List ℕ) (h : Id) (parties : List Party) (front steps : List Step) → 2 ≤ length parties → is_empty (front ++ steps) ≡ false → IsDraft parties (front ++ steps) → NamesGood parties → AllByRecursion (λ step. IsTrue (is_name step.ledger) × IsTrue (is_name step.asset)) steps → reading_behind (made n h parties front) (map line_of (map (says_step parties) steps)) ≡ Ok (made n h parties (front ++ steps))
+read_steps : (n : List ℕ) (h : Id) (parties : List Party) (front steps : List Step) → 2 ≤ length parties → is_empty (front ++ steps) ≡ false → IsDraft parties (front ++ steps) → NamesGood parties → AllByRecursion (λ step. IsTrue (is_name step.ledger) × IsTrue (is_name step.asset)) steps → reading_behind (made n h parties front) (map line_of (map (says_step parties) steps)) ≡ Ok (made n h parties (front ++ steps))
 unfolding says_step named
-read_steps laws n h parties front [] enough some kept names good =
+read_steps n h parties front [] enough some kept names good =
     let all : front ++ [] ≡ front = append-nil front in
     let not_none : is_empty front ≡ false = ap is_empty (sym all) ∙ some in
     rw not_none (ap (λ (ss : List Step). Ok (made n h parties ss)) (sym all))
-read_steps laws n h parties front (step ∷ steps) enough some kept names good =
+read_steps n h parties front (step ∷ steps) enough some kept names good =
     let s : IsStepOf (length parties) step = all_here (IsStepOf (length parties)) front step steps kept.between in
     let none : (k : ℕ) → step_fault k parties front (named parties step) ≡ None = λ k. no_fault k parties front (named parties step) (good_step parties front step steps kept) in
     let may : leb 2 (length parties) ≡ true = le-leb 2 (length parties) enough in
@@ -158,9 +160,9 @@ read_steps laws n h parties front (step ∷ steps) enough some kept names good =
     sum_by-append (amount_if (is_of step.ledger step.asset)) front (step ∷ steps) ∙ ap (λ k. total_of front step.ledger step.asset + k) (sum_by-cons (amount_if (is_of step.ledger step.asset)) step steps ∙ ap (λ k. k + total_of steps step.ledger step.asset) (moves_its_own step)) in
     let line_good : IsGoodLine (line.Step (named parties step)) = (names step.from s.from, names step.to s.to, good.0.0, good.0.1, omega (arith, total, kept.totals step.ledger step.asset)) in
     let joined : (front ++ step ∷ []) ++ steps ≡ front ++ step ∷ steps = append_assoc front (step ∷ []) steps in
-    read_one laws (made n h parties front) (line.Step (named parties step)) (map line_of (map (says_step parties) steps)) line_good (rw may (none _))
+    read_one (made n h parties front) (line.Step (named parties step)) (map line_of (map (says_step parties) steps)) line_good (rw may (none _))
     ∙ (ap (λ (x : Step). reading_behind (made n h parties (front ++ x ∷ [])) (map line_of (map (says_step parties) steps))) (step_again parties step kept.different s.from s.to)
-    ∙ (read_steps laws n h parties (front ++ step ∷ []) steps enough (ap is_empty joined ∙ some) (subst (IsDraft parties) (sym joined) kept) names good.1
+    ∙ (read_steps n h parties (front ++ step ∷ []) steps enough (ap is_empty joined ∙ some) (subst (IsDraft parties) (sym joined) kept) names good.1
     ∙ ap (λ (ss : List Step). Ok (made n h parties ss)) joined))
 
 -- ---- the lines of a deal
@@ -191,9 +193,9 @@ unfolding line_of
 ended_lines [] = refl
 ended_lines (said ∷ saids) = ap (λ (ls : List Line). ended_line (spelled_words (said_words said)) ∷ ls) (ended_lines saids)
 
-lines_lack : PlainLaws → (saids : List DealLine) → AllByRecursion IsGoodLine saids → AllByRecursion (λ line. IsTrue (lacks 10 line)) (map spelled_words (map said_words saids))
-lines_lack laws [] h = tt
-lines_lack laws (said ∷ saids) h = (line_lacks laws said h.0, lines_lack laws saids h.1)
+lines_lack : (saids : List DealLine) → AllByRecursion IsGoodLine saids → AllByRecursion (λ line. IsTrue (lacks 10 line)) (map spelled_words (map said_words saids))
+lines_lack [] h = tt
+lines_lack (said ∷ saids) h = (line_lacks said h.0, lines_lack saids h.1)
 
 -- ---- what a deal spells is good
 
@@ -221,25 +223,21 @@ steps_good parties (step ∷ steps) names between totals good =
 
 -- ---- all together
 
-pub record TextLaws : Type 0 where
-  pub plain : PlainLaws
-  pub spelled : (lines : List (List ℕ)) → AllByRecursion (λ line. IsTrue (lacks 10 line)) lines → lines_of (spelled_lines lines) ≡ map ended_line lines
-
 some_steps : (steps : List Step) → 1 ≤ length steps → is_empty steps ≡ false
 some_steps [] h = absurd (omega (arith, h))
 some_steps (step ∷ steps) h = refl
 
-pub text_again : TextLaws → (deal : DealTold) → IsDeal deal → IsSpellable deal → reading_of (deal_text deal) ≡ Ok (draft_of deal)
-text_again laws deal kept good =
+pub text_again : (deal : DealTold) → IsDeal deal → IsSpellable deal → reading_of (deal_text deal) ≡ Ok (draft_of deal)
+text_again deal kept good =
     let names = names_good deal.parties good.parties in
     let all : AllByRecursion IsGoodLine (deal_lines deal) = (good.name, (good.house, all_join IsGoodLine (map line.Party deal.parties) (map (says_step deal.parties) deal.steps) (parties_good deal.parties good.parties) (steps_good deal.parties deal.steps names kept.kept.between kept.kept.totals good.steps))) in
     let text : deal_text deal ≡ spelled_lines (map spelled_words (map said_words (deal_lines deal))) = ap (λ (ws : List Words). spelled_lines (map spelled_words ws)) (sym (lines_words deal)) in
-    let lines : lines_of (deal_text deal) ≡ map line_of (deal_lines deal) = ap lines_of text ∙ (laws.spelled (map spelled_words (map said_words (deal_lines deal))) (lines_lack laws.plain (deal_lines deal) all) ∙ ended_lines (deal_lines deal)) in
+    let lines : lines_of (deal_text deal) ≡ map line_of (deal_lines deal) = ap lines_of text ∙ (lines_of-spelled (map spelled_words (map said_words (deal_lines deal))) (lines_lack (deal_lines deal) all) ∙ ended_lines (deal_lines deal)) in
     let steps_lines : List Line = map line_of (map (says_step deal.parties) deal.steps) in
     let body : map line_of (map line.Party deal.parties ++ map (says_step deal.parties) deal.steps) ≡ map line_of (map line.Party deal.parties) ++ steps_lines = map_join line_of (map line.Party deal.parties) (map (says_step deal.parties) deal.steps) in
     ap (reading_behind no_lines) lines
-    ∙ (read_one laws.plain no_lines (line.Deal deal.name) (line_of (line.House deal.house) ∷ map line_of (map line.Party deal.parties ++ map (says_step deal.parties) deal.steps)) good.name refl
-    ∙ (read_one laws.plain (with_line no_lines (line.Deal deal.name)) (line.House deal.house) (map line_of (map line.Party deal.parties ++ map (says_step deal.parties) deal.steps)) good.house refl
+    ∙ (read_one no_lines (line.Deal deal.name) (line_of (line.House deal.house) ∷ map line_of (map line.Party deal.parties ++ map (says_step deal.parties) deal.steps)) good.name refl
+    ∙ (read_one (with_line no_lines (line.Deal deal.name)) (line.House deal.house) (map line_of (map line.Party deal.parties ++ map (says_step deal.parties) deal.steps)) good.house refl
     ∙ (ap (reading_behind (made deal.name deal.house [] [])) body
-    ∙ (read_parties laws.plain deal.name deal.house [] deal.parties steps_lines kept.kept.different (omega (arith, kept.kept.few_parties)) good.parties
-    ∙ read_steps laws.plain deal.name deal.house deal.parties [] deal.steps kept.parties (some_steps deal.steps kept.steps) kept.kept names good.steps))))
+    ∙ (read_parties deal.name deal.house [] deal.parties steps_lines kept.kept.different (omega (arith, kept.kept.few_parties)) good.parties
+    ∙ read_steps deal.name deal.house deal.parties [] deal.steps kept.parties (some_steps deal.steps kept.steps) kept.kept names good.steps))))

@@ -20,8 +20,10 @@ use Rattle.deal_core.specs.declared.deal_line.DealLine.{DealLine}
 use Rattle.deal_core.specs.declared.deal_line.DealLine.TheVariants as line
 use Rattle.deal_core.specs.declared.deal_fault.DealFault.{DealFault}
 use Rattle.deal_core.specs.declared.deal_fault.DealFault.TheVariants.{BadLine}
-use Rattle.deal_core.proofs.Drafting.{unbroken, good_step, name_found}
-use Rattle.deal_core.proofs.WordReading.{NumberLaws, Words}
+use Rattle.deal_core.proofs.Drafting.{good_step, name_found}
+use Rattle.line_text.proofs.Faults.{unbroken}
+use Rattle.line_text.proofs.Joining.{joined-lines_of, spelled-words_of}
+use Rattle.line_text.proofs.WordReading.{Words}
 use Rattle.deal_core.proofs.SaidReading.{said_words, words_found}
 
 -- ---- the lines of a draft
@@ -130,12 +132,6 @@ said_longer draft (line.Step step) h none =
 
 -- ---- all lines
 
--- what is known of lines and words
-pub record LineLaws : Type 0 where
-  pub numbers : NumberLaws
-  pub read : (text : List ℕ) → spelled_words (words_of text) ≡ text
-  pub joined : (text : List ℕ) → joined_lines (lines_of text) ≡ text
-
 abbrev line_text : Words → List ℕ
 line_text words = spelled_words words ++ 10 ∷ []
 
@@ -144,14 +140,14 @@ text_longer draft said h =
     let lines : map spelled_words (draft_words (with_line draft said)) ≡ map spelled_words (draft_words draft) ++ spelled_words (said_words said) ∷ [] = ap (map spelled_words) h.words ∙ map_push spelled_words (draft_words draft) (said_words said) in
     ap spelled_lines lines ∙ (flat_map-append (λ (line : List ℕ). line ++ 10 ∷ []) (map spelled_words (draft_words draft)) (spelled_words (said_words said) ∷ []) ∙ ap (λ (bytes : List ℕ). draft_text draft ++ bytes) (append-nil (line_text (said_words said))))
 
-line_said : LineLaws → (l : Line) (said : DealLine) → said_by l ≡ Some said → line_bytes l ≡ line_text (said_words said)
-line_said laws l said e = by_end l.ended refl e
+line_said : (l : Line) (said : DealLine) → said_by l ≡ Some said → line_bytes l ≡ line_text (said_words said)
+line_said l said e = by_end l.ended refl e
   where
     by_end : (b : Bool) → l.ended ≡ b → cond b (said_of_words (words_of l.text)) None ≡ Some said → line_bytes l ≡ line_text (said_words said)
     by_end false f e = absurd cc
     by_end true f e =
-        let words : words_of l.text ≡ said_words said = words_found laws.numbers (words_of l.text) said e in
-        let text : l.text ≡ spelled_words (said_words said) = sym (laws.read l.text) ∙ ap spelled_words words in
+        let words : words_of l.text ≡ said_words said = words_found (words_of l.text) said e in
+        let text : l.text ≡ spelled_words (said_words said) = sym (spelled-words_of l.text) ∙ ap spelled_words words in
         ap (λ b. l.text ++ cond b (10 ∷ []) []) f ∙ ap (λ (t : List ℕ). t ++ 10 ∷ []) text
 
 unless_ok : (fault : Option DealFault) (rest : Result Draft DealFault) (d : Draft) → unless fault rest ≡ Ok d → (fault ≡ None) × (rest ≡ Ok d)
@@ -171,17 +167,17 @@ pub record IsReadFrom (draft : Draft) (lines : List Line) (d : Draft) : Type 0 w
   pub whole : is_whole d ≡ true
   pub text : draft_text d ≡ draft_text draft ++ joined_lines lines
 
-pub read_found : LineLaws → (draft : Draft) (lines : List Line) (d : Draft) → IsOrdered draft → reading_behind draft lines ≡ Ok d → IsReadFrom draft lines d
-read_found laws draft [] d h e =
+pub read_found : (draft : Draft) (lines : List Line) (d : Draft) → IsOrdered draft → reading_behind draft lines ≡ Ok d → IsReadFrom draft lines d
+read_found draft [] d h e =
     let w = whole_ok draft d e in
     record {
       ordered = subst IsOrdered w.1 h;
       whole = ap is_whole (sym w.1) ∙ w.0;
       text = ap draft_text (sym w.1) ∙ sym (append-nil (draft_text draft));
     }
-read_found laws draft (l ∷ lines) d h e =
+read_found draft (l ∷ lines) d h e =
     let u = unless_ok (line_fault draft l) (reading_behind (after_line draft l) lines) d e in
-    by_said (said_by l) refl u.0 (λ ordered. read_found laws (after_line draft l) lines d ordered u.1)
+    by_said (said_by l) refl u.0 (λ ordered. read_found (after_line draft l) lines d ordered u.1)
   where
     by_said : (o : Option DealLine) → said_by l ≡ o → said_fault draft o ≡ None → (IsOrdered (after_line draft l) → IsReadFrom (after_line draft l) lines d) → IsReadFrom draft (l ∷ lines) d
     by_said None f none rest = absurd cc
@@ -192,14 +188,14 @@ read_found laws draft (l ∷ lines) d h e =
         record {
           ordered = r.ordered;
           whole = r.whole;
-          text = r.text ∙ (ap (λ (x : Draft). draft_text x ++ joined_lines lines) next ∙ (ap (λ (bytes : List ℕ). bytes ++ joined_lines lines) (text_longer draft said longer) ∙ (append_assoc (draft_text draft) (line_text (said_words said)) (joined_lines lines) ∙ ap (λ (bytes : List ℕ). draft_text draft ++ (bytes ++ joined_lines lines)) (sym (line_said laws l said f)))));
+          text = r.text ∙ (ap (λ (x : Draft). draft_text x ++ joined_lines lines) next ∙ (ap (λ (bytes : List ℕ). bytes ++ joined_lines lines) (text_longer draft said longer) ∙ (append_assoc (draft_text draft) (line_text (said_words said)) (joined_lines lines) ∙ ap (λ (bytes : List ℕ). draft_text draft ++ (bytes ++ joined_lines lines)) (sym (line_said l said f)))));
         }
 
 -- what is read of a text is spelled by it
-pub text_found : LineLaws → (text : List ℕ) (d : Draft) → reading_of text ≡ Ok d → IsReadFrom no_lines (lines_of text) d × (text ≡ draft_text d)
-text_found laws text d e =
-    let r = read_found laws no_lines (lines_of text) d (refl, refl, refl) e in
-    (r, sym (r.text ∙ laws.joined text))
+pub text_found : (text : List ℕ) (d : Draft) → reading_of text ≡ Ok d → IsReadFrom no_lines (lines_of text) d × (text ≡ draft_text d)
+text_found text d e =
+    let r = read_found no_lines (lines_of text) d (refl, refl, refl) e in
+    (r, sym (r.text ∙ joined-lines_of text))
 
 whole_is : (d : Draft) (text : List ℕ) → IsOrdered d → is_whole d ≡ true → text ≡ draft_text d → IsWholeText d text
 whole_is d text h w t = by_parts d.name d.house d.parties d.steps h w t
@@ -218,7 +214,7 @@ whole_is d text h w t = by_parts d.name d.house d.parties d.steps h w t
       spelled = λ id. t;
     }
 
-pub found : LineLaws → (text : List ℕ) (d : Draft) → reading_of text ≡ Ok d → IsWholeText d text
-found laws text d e =
-    let f = text_found laws text d e in
+pub found : (text : List ℕ) (d : Draft) → reading_of text ≡ Ok d → IsWholeText d text
+found text d e =
+    let f = text_found text d e in
     whole_is d text f.0.ordered f.0.whole f.1

@@ -1,10 +1,10 @@
 -- The text of a deal: a line for its name, one for its house, one for each party and one for each step.
-use Rattle.std.specs.Prelude.{ℕ, ◌≡◌, ◌<◌, IsTrue, List, [], ◌∷◌, ◌++◌, length, map, codes, Option, Some, None}
+use Rattle.std.specs.Prelude.{ℕ, IsTrue, List, [], ◌∷◌, ◌++◌, map, codes, Option, Some, None}
 use Rattle.std.specs.List.{slice_get, AllByRecursion}
 use Rattle.std.specs.Fmt.{decimal}
 use Rattle.dh_base.specs.Names.{is_name}
 use Rattle.dh_base.specs.Spelled.{hex_text}
-use Rattle.dh_base.specs.declared.id.Id.{Id}
+use Rattle.line_text.specs.IdWords.{IsId}
 use Rattle.line_text.specs.Lines.{spelled_lines}
 use Rattle.line_text.specs.Words.{spelled_words}
 use Rattle.deal_core.specs.Deals.{DealTold}
@@ -40,9 +40,6 @@ abbrev pub deal_text : DealTold → List ℕ
 deal_text deal = lines_text (deal_words deal)
 
 -- ---- what has a spelling: names are names, and ids are 32 bytes
-
-abbrev pub IsId : Id → Type 0
-IsId id = (length id.0 ≡ 32) × AllByRecursion (λ byte. byte < 256) id.0
 
 pub record IsSpellable (deal : DealTold) : Type 0 where
   pub name : IsTrue (is_name deal.name)

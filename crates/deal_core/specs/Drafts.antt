@@ -4,6 +4,7 @@ use Rattle.std.specs.List.{list_any}
 use Rattle.std.specs.Option.{unwrap_or}
 use Rattle.std.specs.Str.{bytes_eq}
 use Rattle.dh_base.specs.declared.id.Id.{Id}
+use Rattle.line_text.specs.Faults.{broken_if}
 use Rattle.line_text.specs.Lines.{Line, lines_of}
 use Rattle.deal_core.specs.Deals.{is_named, has_account, index_of_name, total_of}
 use Rattle.deal_core.specs.Kept.{is_on, ledger_count}
@@ -38,9 +39,6 @@ is_empty [] = true
 is_empty (x ∷ xs) = false
 
 -- ---- which fault a line has
-
-abbrev pub broken_if : Bool → DealFault → Option DealFault → Option DealFault
-broken_if broken fault other = if broken then Some fault else other
 
 -- The number of the line is n.
 abbrev pub party_fault : ℕ → List Party → Party → Option DealFault

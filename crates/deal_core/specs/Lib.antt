@@ -2,7 +2,6 @@ pub mod Deals
 pub mod DealText
 pub mod Kept
 pub mod Marks
-pub mod IdWords
 pub mod Said
 pub mod DealFaults
 pub mod Drafts

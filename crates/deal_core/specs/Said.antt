@@ -3,15 +3,9 @@ use Rattle.std.specs.Prelude.{ℕ, if◌then◌else◌, List, [], ◌∷◌, Opt
 use Rattle.std.specs.Str.{bytes_eq}
 use Rattle.line_text.specs.Lines.{Line}
 use Rattle.line_text.specs.Words.{words_of}
-use Rattle.line_text.specs.Reading.{◌>>=◌, name_word, amount_word}
-use Rattle.deal_core.specs.IdWords.{id_word}
+use Rattle.line_text.specs.Reading.{◌>>=◌, name_word, amount_word, id_word, ended}
 use Rattle.deal_core.specs.declared.deal_line.DealLine.{DealLine}
 use Rattle.deal_core.specs.declared.deal_line.DealLine.TheVariants.{Deal, House, Party, Step}
-
--- nothing follows
-abbrev pub ended : List (List ℕ) → DealLine → Option DealLine
-ended [] said = Some said
-ended (word ∷ words) said = None
 
 unfoldable pub deal_after : List (List ℕ) → Option DealLine
 deal_after words = do

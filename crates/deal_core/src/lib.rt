@@ -4,9 +4,9 @@
 //! - `deal`, `party`, `step`: a deal, its matrix, and the index of a party.
 //! - `reading`, `writing`: from a text to its deal, and back.
 //! - `deal_fault`: what is wrong with a text.
-//! - `deal_line`, `saying`, `id_word`: what a line says, read from its words.
 //! - `draft`, `step_list`: what the lines so far come to, and the fault of the next.
 //! - `reach`: whether the parties reach each other.
+//! - `deal_line`, `saying`: what a line says, read from its words.
 //! - `laws`: a text is read exactly as the deal that it spells, and refused for its first fault.
 #![tactic(auto)]
 
@@ -14,7 +14,6 @@ pub mod deal;
 pub mod deal_fault;
 mod deal_line;
 mod draft;
-mod id_word;
 pub mod laws;
 pub mod party;
 mod reach;

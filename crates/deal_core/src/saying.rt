@@ -5,7 +5,6 @@ ghost use Rattle.line_text.specs.Seen.{line_of};
 ghost use Rattle.deal_core.specs.Said.{deal_after, house_after, party_after, step_after, said_after, said_by};
 
 use crate::deal_line::{DealLine, NamedStep};
-use crate::id_word::take_id;
 use crate::party::Party;
 use line_text::{TextLine, Words};
 
@@ -24,7 +23,7 @@ fn deal(mut words: Words<'_>) -> Option<DealLine>
 fn house(mut words: Words<'_>) -> Option<DealLine>
     ensures { result ≡ house_after words.entry }
 {
-    let house = take_id(&mut words)?;
+    let house = words.id()?;
     if !words.is_done() {
         return None;
     }
@@ -36,7 +35,7 @@ fn party(mut words: Words<'_>) -> Option<DealLine>
     ensures { result ≡ party_after words.entry }
 {
     let name = words.name()?;
-    let account = take_id(&mut words)?;
+    let account = words.id()?;
     if !words.is_done() {
         return None;
     }

@@ -3,3 +3,8 @@ pub mod Digits
 pub mod Joining
 pub mod Decimals
 pub mod Plain
+pub mod HexWords
+pub mod HexAgain
+pub mod Faults
+pub mod WordReading
+pub mod PlainWords

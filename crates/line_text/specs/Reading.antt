@@ -1,8 +1,10 @@
 -- Reading a line word by word: each reading gives a value and the words behind it, or nothing.
 use Rattle.std.specs.Prelude.{ℕ, ◌≡◌, Bool, true, false, if◌then◌else◌, List, [], ◌∷◌, Option, Some, None}
 use Rattle.dh_base.specs.Names.{is_name}
+use Rattle.dh_base.specs.declared.id.Id.{Id}
 use Rattle.line_text.specs.declared.number.Number.{Number}
 use Rattle.line_text.specs.Numbers.{number_of, in_64_bits, in_32_bits, amount_of}
+use Rattle.line_text.specs.IdWords.{id_of}
 
 infixl 10 ◌>>=◌
 abbrev pub ◌>>=◌ : {A B : Type 0} → Option A → (A → Option B) → Option B
@@ -37,6 +39,17 @@ amount_word words = do
   n ← number_of word.0
   amount ← amount_of n
   Some (amount, word.1)
+
+unfoldable pub id_word : List (List ℕ) → Option (Id × List (List ℕ))
+id_word words = do
+  word ← first_word words
+  id ← id_of word.0
+  Some (id, word.1)
+
+-- what was read, where nothing follows
+abbrev pub ended : {A : Type 0} → List (List ℕ) → A → Option A
+ended [] read = Some read
+ended (word ∷ words) read = None
 
 -- no word is left
 abbrev pub is_done : List (List ℕ) → Bool

@@ -9,12 +9,14 @@ ghost use Rattle.line_text.specs.Reading.{
   number_word,
   number_u32_word,
   amount_word,
+  id_word,
   is_done as none_left,
 };
 
+use crate::id_word::id_of;
 use crate::number::Number;
 use crate::place::place_of;
-use dh_base::Name;
+use dh_base::{Id, Name};
 use std::marker::Model;
 
 /// The words of a line that are left. A contract sees their list.
@@ -101,6 +103,17 @@ impl<'a> Words<'a> {
         let amount = Number::from_bytes(word)?.to_amount()?;
         *self = rest;
         Some(amount)
+    }
+
+    /// Takes the next word, where it is an id: 64 lower-case hexadecimal digits, two for each byte.
+    #[tactic(auto, unfolding(crate::specs::Reading::id_word))]
+    pub fn id(&mut self) -> Option<Id>
+        ensures { Reads (λ id. id) result self.old self.new (id_word self.old) }
+    {
+        let (word, rest) = self.split_first()?;
+        let id = id_of(word)?;
+        *self = rest;
+        Some(id)
     }
 
     /// The next word, and the words behind it.

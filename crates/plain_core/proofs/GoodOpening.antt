@@ -17,7 +17,7 @@ use Rattle.plain_script.specs.declared.rule.ScriptRule.TheVariants.{NameTwice, U
 use Rattle.plain_core.specs.Ids.{plain_id}
 use Rattle.plain_core.specs.Openings.{rows_by, rows_of}
 use Rattle.plain_core.proofs.PlainIds.{same_plain_id}
-use Rattle.plain_core.proofs.Unbroken.{unbroken}
+use Rattle.line_text.proofs.Faults.{unbroken}
 
 -- ---- what the rows say is what the declarations say
 

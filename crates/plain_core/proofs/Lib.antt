@@ -15,5 +15,4 @@ pub mod PlainIds
 pub mod Promised
 pub mod RowTexts
 pub mod Runs
-pub mod Unbroken
 pub mod Within

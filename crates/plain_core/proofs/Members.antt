@@ -14,7 +14,7 @@ use Rattle.plain_script.specs.declared.rule.ScriptRule.TheVariants.{BadLine, Nam
 use Rattle.plain_core.specs.Ids.{plain_id}
 use Rattle.plain_core.proofs.EachOnce.{each_once, once_if_different}
 use Rattle.plain_core.proofs.PlainIds.{same_plain_id}
-use Rattle.plain_core.proofs.Unbroken.{unbroken}
+use Rattle.line_text.proofs.Faults.{unbroken}
 
 -- ---- as accounts
 

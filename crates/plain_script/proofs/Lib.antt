@@ -1,5 +1,6 @@
 pub mod Declared
 pub mod FirstLine
+pub mod FirstWords
 pub mod Fronting
 pub mod NamesSame
 pub mod NameWords
@@ -9,4 +10,3 @@ pub mod Parties
 pub mod PlainWords
 pub mod ScriptSpelling
 pub mod StatementReading
-pub mod WordReading

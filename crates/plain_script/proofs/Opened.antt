@@ -8,7 +8,8 @@ use Rattle.std.proofs.lemmas.Slice.Eq.{bytes_eq-Decides}
 use Rattle.std.proofs.lemmas.List.Sums.{sum_by-append}
 use Rattle.plain_script.specs.Bound.{opened_of, opened_by, opens_on, opens_row, is_thing, is_ledger, is_good_row}
 use Rattle.std.proofs.lemmas.List.{append-nil}
-use Rattle.plain_script.specs.Rules.{broken_if, rule_with_parties, declaration_rule, KeepRules}
+use Rattle.line_text.proofs.Faults.{unbroken}
+use Rattle.plain_script.specs.Rules.{rule_with_parties, declaration_rule, KeepRules}
 use Rattle.plain_script.specs.declared.declaration.Declaration.{Declaration}
 use Rattle.plain_script.specs.declared.declaration.Declaration.TheVariants.{Ledger, Open, Deal}
 use Rattle.plain_script.specs.declared.rule.ScriptRule.{ScriptRule}
@@ -16,10 +17,6 @@ use Rattle.plain_script.specs.declared.rule.ScriptRule.TheVariants.{NameTwice, U
 
 abbrev AllSmall : List Declaration → Type 0
 AllSmall ds = (ledger asset : List ℕ) → opened_of ds ledger asset < 2 ^ 63
-
-unbroken : (b : Bool) (rule : ScriptRule) (other : Option ScriptRule) → broken_if b rule other ≡ None → (b ≡ false) × (other ≡ None)
-unbroken true rule other e = absurd cc
-unbroken false rule other e = (refl, e)
 
 opened_push : (ds : List Declaration) (d : Declaration) (ledger asset : List ℕ) → opened_of (ds ++ d ∷ []) ledger asset ≡ opened_of ds ledger asset + opened_by ledger asset d
 opened_push ds d ledger asset = omega (arith, sum_by-append (opened_by ledger asset) ds (d ∷ []))

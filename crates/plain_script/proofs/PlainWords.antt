@@ -11,6 +11,10 @@ use Rattle.dh_base.specs.Names.{is_name}
 use Rattle.line_text.specs.Bytes.{lacks}
 use Rattle.line_text.specs.Numbers.{is_number}
 use Rattle.line_text.specs.Words.{words_of, spelled_words}
+use Rattle.line_text.proofs.Joining.{words_of-spelled, spelled-words_of}
+use Rattle.line_text.proofs.Plain.{lacks-name, lacks-decimal, lacks-spelled_words}
+use Rattle.line_text.proofs.PlainWords.{IsPlain, AllPlain, no_spaces, no_feeds}
+use Rattle.line_text.proofs.WordReading.{Words}
 use Rattle.plain_script.specs.Statements.{statement_of, statement_of_words}
 use Rattle.plain_script.specs.Spelling.{declaration_words, SpellsNumber, SpellsEvent, IsGoodDeclaration, IsGoodEvent, Spells}
 use Rattle.plain_script.specs.declared.declaration.Declaration.{Declaration}
@@ -19,21 +23,7 @@ use Rattle.plain_script.specs.declared.event.Event.{Event}
 use Rattle.plain_script.specs.declared.event.Event.TheVariants.{Register, Escrow, Transfer, Start, Commit, Abort, Claim}
 use Rattle.plain_script.specs.declared.statement.Statement.{Statement}
 use Rattle.plain_script.specs.declared.statement.Statement.TheVariants.{Plain, House, Declare, Begin, Happen}
-use Rattle.plain_script.proofs.WordReading.{NumberLaws, Words}
 use Rattle.plain_script.proofs.StatementReading.{States, words_found, words_only}
-
--- neither a space nor a line feed stands in the word
-abbrev pub IsPlain : List ℕ → Type 0
-IsPlain word = IsTrue (lacks 32 word) × IsTrue (lacks 10 word)
-
--- what is known of words
-pub record WordLaws : Type 0 where
-  pub numbers : NumberLaws
-  pub name : (word : List ℕ) → IsTrue (is_name word) → IsPlain word
-  pub decimal_plain : (n : ℕ) → n < 2 ^ 64 → IsPlain (decimal n)
-  pub spelled : (words : Words) → words ≢ [] → AllByRecursion (λ word. IsTrue (lacks 32 word)) words → words_of (spelled_words words) ≡ words
-  pub read : (line : List ℕ) → spelled_words (words_of line) ≡ line
-  pub line : (words : Words) → AllByRecursion (λ word. IsTrue (lacks 10 word)) words → IsTrue (lacks 10 (spelled_words words))
 
 digit_above : (c : ℕ) → is_ascii_digit c ≡ true → 48 ≤ c
 digit_above c h = leb-true 48 c (and_parts (leb 48 c) (leb c 57) h).0
@@ -50,74 +40,62 @@ number_digits [] h = absurd cc
 number_digits (c ∷ []) h = and_from (is_ascii_digit c) true h refl
 number_digits (c ∷ d ∷ cs) h = (and_parts (not (eqb c 48)) (all_ascii_digits (c ∷ d ∷ cs)) h).1
 
-number_plain : WordLaws → (o : Option ℕ) (word : List ℕ) → SpellsNumber o word → IsPlain word
-number_plain laws None word h =
+number_plain : (o : Option ℕ) (word : List ℕ) → SpellsNumber o word → IsPlain word
+number_plain None word h =
     let digits = number_digits word (cond_some (is_number word) (digits_value 10 word) h.0 h.2).0 in
     (digits_lack 32 word (omega arith) digits, digits_lack 10 word (omega arith) digits)
-number_plain laws (Some n) word h = subst IsPlain (sym h.1) (laws.decimal_plain n (omega arith))
+number_plain (Some n) word h = subst IsPlain (sym h.1) (lacks-decimal n (omega arith))
 
--- each of the words is plain
-abbrev AllPlain : Words → Type 0
-AllPlain words = AllByRecursion IsPlain words
-
-names_plain : WordLaws → (names : Words) → list_all is_name names ≡ true → AllPlain names
-names_plain laws [] h = tt
-names_plain laws (n ∷ ns) h =
+names_plain : (names : Words) → list_all is_name names ≡ true → AllPlain names
+names_plain [] h = tt
+names_plain (n ∷ ns) h =
     let parts = and_parts (is_name n) (list_all is_name ns) h in
-    (laws.name n parts.0, names_plain laws ns parts.1)
+    (lacks-name n parts.0, names_plain ns parts.1)
 
-amount_plain : WordLaws → (n : ℕ) → n < 2 ^ 63 → IsPlain (decimal n)
-amount_plain laws n small = laws.decimal_plain n (omega arith)
+amount_plain : (n : ℕ) → n < 2 ^ 63 → IsPlain (decimal n)
+amount_plain n small = lacks-decimal n (omega arith)
 
-declaration_plain : WordLaws → (d : Declaration) → IsGoodDeclaration d → AllPlain (declaration_words d)
-declaration_plain laws (Ledger name) h = ((refl, refl), (laws.name name h, tt))
-declaration_plain laws (Open ledger asset party amount) h = ((refl, refl), (laws.name ledger h.0, (laws.name asset h.1, (laws.name party h.2, (amount_plain laws amount h.3, tt)))))
-declaration_plain laws (Deal name parties) h = ((refl, refl), (laws.name name h.0, names_plain laws parties h.1))
+declaration_plain : (d : Declaration) → IsGoodDeclaration d → AllPlain (declaration_words d)
+declaration_plain (Ledger name) h = ((refl, refl), (lacks-name name h, tt))
+declaration_plain (Open ledger asset party amount) h = ((refl, refl), (lacks-name ledger h.0, (lacks-name asset h.1, (lacks-name party h.2, (amount_plain amount h.3, tt)))))
+declaration_plain (Deal name parties) h = ((refl, refl), (lacks-name name h.0, names_plain parties h.1))
 
-event_plain : WordLaws → (e : Event) (words : Words) → IsGoodEvent e → SpellsEvent e words → AllPlain words
-event_plain laws (Register ledger deal party) words h w = subst AllPlain (sym w) ((refl, refl), (laws.name ledger h.0, (laws.name deal h.1, (laws.name party h.2, tt))))
-event_plain laws (Escrow ledger deal party asset amount) words h w =
-    subst AllPlain (sym w) ((refl, refl), (laws.name ledger h.0, (laws.name deal h.1, (laws.name party h.2, (laws.name asset h.3, (amount_plain laws amount h.4, tt))))))
-event_plain laws (Transfer ledger deal from turn to asset amount) words h w =
-    subst AllPlain (sym w.2) ((refl, refl), (laws.name ledger h.0, (laws.name deal h.1, (laws.name from h.2, (number_plain laws turn w.0 w.1, (laws.name to h.3, (laws.name asset h.4, (amount_plain laws amount h.5, tt))))))))
-event_plain laws (Start deal party) words h w = subst AllPlain (sym w) ((refl, refl), (laws.name deal h.0, (laws.name party h.1, tt)))
-event_plain laws (Commit deal party) words h w = subst AllPlain (sym w) ((refl, refl), (laws.name deal h.0, (laws.name party h.1, tt)))
-event_plain laws (Abort deal party) words h w = subst AllPlain (sym w) ((refl, refl), (laws.name deal h.0, (laws.name party h.1, tt)))
-event_plain laws (Claim ledger deal len) words h w = subst AllPlain (sym w.2) ((refl, refl), (laws.name ledger h.0, (laws.name deal h.1, (number_plain laws len w.0 w.1, tt))))
+event_plain : (e : Event) (words : Words) → IsGoodEvent e → SpellsEvent e words → AllPlain words
+event_plain (Register ledger deal party) words h w = subst AllPlain (sym w) ((refl, refl), (lacks-name ledger h.0, (lacks-name deal h.1, (lacks-name party h.2, tt))))
+event_plain (Escrow ledger deal party asset amount) words h w =
+    subst AllPlain (sym w) ((refl, refl), (lacks-name ledger h.0, (lacks-name deal h.1, (lacks-name party h.2, (lacks-name asset h.3, (amount_plain amount h.4, tt))))))
+event_plain (Transfer ledger deal from turn to asset amount) words h w =
+    subst AllPlain (sym w.2) ((refl, refl), (lacks-name ledger h.0, (lacks-name deal h.1, (lacks-name from h.2, (number_plain turn w.0 w.1, (lacks-name to h.3, (lacks-name asset h.4, (amount_plain amount h.5, tt))))))))
+event_plain (Start deal party) words h w = subst AllPlain (sym w) ((refl, refl), (lacks-name deal h.0, (lacks-name party h.1, tt)))
+event_plain (Commit deal party) words h w = subst AllPlain (sym w) ((refl, refl), (lacks-name deal h.0, (lacks-name party h.1, tt)))
+event_plain (Abort deal party) words h w = subst AllPlain (sym w) ((refl, refl), (lacks-name deal h.0, (lacks-name party h.1, tt)))
+event_plain (Claim ledger deal len) words h w = subst AllPlain (sym w.2) ((refl, refl), (lacks-name ledger h.0, (lacks-name deal h.1, (number_plain len w.0 w.1, tt))))
 
-statement_plain : WordLaws → (s : Statement) (words : Words) → States words s → AllPlain words
-statement_plain laws Plain words h = subst AllPlain (sym h.1) ((refl, refl), tt)
-statement_plain laws House words h = subst AllPlain (sym h.1) ((refl, refl), tt)
-statement_plain laws (Declare d) words h = subst AllPlain (sym h.1) (declaration_plain laws d h.0)
-statement_plain laws Begin words h = subst AllPlain (sym h.1) ((refl, refl), tt)
-statement_plain laws (Happen e) words h = event_plain laws e words h.0 h.1
-
-no_spaces : (words : Words) → AllPlain words → AllByRecursion (λ word. IsTrue (lacks 32 word)) words
-no_spaces [] h = tt
-no_spaces (w ∷ ws) h = (h.0.0, no_spaces ws h.1)
-
-no_feeds : (words : Words) → AllPlain words → AllByRecursion (λ word. IsTrue (lacks 10 word)) words
-no_feeds [] h = tt
-no_feeds (w ∷ ws) h = (h.0.1, no_feeds ws h.1)
+statement_plain : (s : Statement) (words : Words) → States words s → AllPlain words
+statement_plain Plain words h = subst AllPlain (sym h.1) ((refl, refl), tt)
+statement_plain House words h = subst AllPlain (sym h.1) ((refl, refl), tt)
+statement_plain (Declare d) words h = subst AllPlain (sym h.1) (declaration_plain d h.0)
+statement_plain Begin words h = subst AllPlain (sym h.1) ((refl, refl), tt)
+statement_plain (Happen e) words h = event_plain e words h.0 h.1
 
 -- a statement has a word
-some_words : NumberLaws → (s : Statement) (words : Words) → States words s → words ≢ []
-some_words laws s words h none = absurd (let e : statement_of_words [] ≡ Some s = ap statement_of_words (sym none) ∙ words_only laws s words h in cc)
+some_words : (s : Statement) (words : Words) → States words s → words ≢ []
+some_words s words h none = absurd (let e : statement_of_words [] ≡ Some s = ap statement_of_words (sym none) ∙ words_only s words h in cc)
 
 -- ---- a line and the statement that it says
 
-pub line_only : WordLaws → (s : Statement) (line : List ℕ) → Spells s line → statement_of line ≡ Some s
-line_only laws s line h =
+pub line_only : (s : Statement) (line : List ℕ) → Spells s line → statement_of line ≡ Some s
+line_only s line h =
     let states : States h.words s = (h.good, h.spelled) in
-    let words : words_of line ≡ h.words = ap words_of h.line_is ∙ laws.spelled h.words (some_words laws.numbers s h.words states) (no_spaces h.words (statement_plain laws s h.words states)) in
-    ap statement_of_words words ∙ words_only laws.numbers s h.words states
+    let words : words_of line ≡ h.words = ap words_of h.line_is ∙ words_of-spelled h.words (some_words s h.words states) (no_spaces h.words (statement_plain s h.words states)) in
+    ap statement_of_words words ∙ words_only s h.words states
 
-pub line_found : WordLaws → (line : List ℕ) (s : Statement) → statement_of line ≡ Some s → Spells s line
-line_found laws line s e =
-    let states = words_found laws.numbers (words_of line) s e in
-    record { good = states.0; words = words_of line; spelled = states.1; line_is = sym (laws.read line) }
+pub line_found : (line : List ℕ) (s : Statement) → statement_of line ≡ Some s → Spells s line
+line_found line s e =
+    let states = words_found (words_of line) s e in
+    record { good = states.0; words = words_of line; spelled = states.1; line_is = sym (spelled-words_of line) }
 
-pub line_lacks : WordLaws → (s : Statement) (line : List ℕ) → Spells s line → IsTrue (lacks 10 line)
-line_lacks laws s line h =
+pub line_lacks : (s : Statement) (line : List ℕ) → Spells s line → IsTrue (lacks 10 line)
+line_lacks s line h =
     let states : States h.words s = (h.good, h.spelled) in
-    subst (λ (l : List ℕ). IsTrue (lacks 10 l)) (sym h.line_is) (laws.line h.words (no_feeds h.words (statement_plain laws s h.words states)))
+    subst (λ (l : List ℕ). IsTrue (lacks 10 l)) (sym h.line_is) (lacks-spelled_words h.words (no_feeds h.words (statement_plain s h.words states)))

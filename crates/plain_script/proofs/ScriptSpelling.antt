@@ -17,16 +17,10 @@ use Rattle.plain_script.specs.declared.statement.Statement.{Statement}
 use Rattle.plain_script.specs.declared.statement.Statement.TheVariants.{Plain, Declare, Begin, Happen}
 use Rattle.plain_script.specs.declared.rule.ScriptRule.TheVariants.{BadLine, TooLarge}
 use Rattle.plain_script.proofs.FirstLine.{kept_all, all_kept}
-use Rattle.plain_script.proofs.WordReading.{some_is}
-use Rattle.plain_script.proofs.PlainWords.{WordLaws, line_only, line_found, line_lacks}
+use Rattle.line_text.proofs.WordReading.{some_is}
+use Rattle.line_text.proofs.Joining.{lines_of-spelled, AreLines-lines_of, joined-lines_of}
+use Rattle.plain_script.proofs.PlainWords.{line_only, line_found, line_lacks}
 use Rattle.plain_script.proofs.Orders.{Keeps, keeps_from, one_line, head_is, AreDeclared, happened_by, happening_lines, ordered, ordered_declare, ordered_happen, ordered_begins, unbegun}
-
--- what is known of lines
-pub record LineLaws : Type 0 where
-  pub words : WordLaws
-  pub spelled : (lines : List (List ℕ)) → AllByRecursion (λ line. IsTrue (lacks 10 line)) lines → lines_of (spelled_lines lines) ≡ map ended_line lines
-  pub are_lines : (text : List ℕ) → AreLines (lines_of text)
-  pub joined : (text : List ℕ) → joined_lines (lines_of text) ≡ text
 
 abbrev Texts : Type 0
 Texts = List (List ℕ)
@@ -66,13 +60,13 @@ spelled_more before line lines told here ended says_it rest =
       events = ap (λ (ss : List Statement). flat_map (numbered (before + 1)) ss ++ events_told (before + 1) rest.told) says_it ∙ ap (λ (es : List Numbered). flat_map (numbered (before + 1)) (statements_by line) ++ es) rest.events;
     }
 
-are_spelled : WordLaws → (before : ℕ) (front : Front) (lines : List Line) → Keeps front lines → NoFeeds lines → AreSpelled before lines
-are_spelled laws before front [] keeps feeds = record { told = []; texts = []; spelled = tt; lines_are = refl; statements = refl; events = refl }
-are_spelled laws before front (line ∷ lines) keeps feeds =
-    let rest = are_spelled laws (before + 1) (front_after front line) lines keeps.1 feeds.1 in
+are_spelled : (before : ℕ) (front : Front) (lines : List Line) → Keeps front lines → NoFeeds lines → AreSpelled before lines
+are_spelled before front [] keeps feeds = record { told = []; texts = []; spelled = tt; lines_are = refl; statements = refl; events = refl }
+are_spelled before front (line ∷ lines) keeps feeds =
+    let rest = are_spelled (before + 1) (front_after front line) lines keeps.1 feeds.1 in
     elim (one_line front line keeps.0) [
       | inl passed ↦ spelled_more before line lines (Passed line.text) (refl, passed.passed, feeds.0) passed.ended (sym passed.nothing) rest
-      | inr said ↦ spelled_more before line lines (Says said.0) (line_found laws line.text said.0 said.1.said) said.1.ended (sym said.1.one) rest
+      | inr said ↦ spelled_more before line lines (Says said.0) (line_found line.text said.0 said.1.said) said.1.ended (sym said.1.one) rest
     ]
 
 -- ---- what was read
@@ -116,13 +110,13 @@ ordered_is ss form whole =
           ]
     ]
 
-pub was_read : LineLaws → (script : List ℕ) (told : ScriptTold) → reading_of script ≡ Ok told → (lines : List ScriptLine) × IsReadAs script lines told
-was_read laws script told e =
+pub was_read : (script : List ℕ) (told : ScriptTold) → reading_of script ≡ Ok told → (lines : List ScriptLine) × IsReadAs script lines told
+was_read script told e =
     let a = within script told e in
     let lines : List Line = lines_of script in
     let b = unrefused lines (first_refused [] lines) told a.1 in
     let keeps : Keeps (front_of []) lines = keeps_from [] lines b.0 in
-    let s = are_spelled laws.words 0 (front_of []) lines keeps (no_feeds lines (laws.are_lines script)) in
+    let s = are_spelled 0 (front_of []) lines keeps (no_feeds lines (AreLines-lines_of script)) in
     let c = chosen_ok (says_nothing (statements_of lines) || list_any is_begin (statements_of lines)) (record { declarations = declarations_of (statements_of lines); events = events_from 0 lines }) told (record { line = length lines + 1; rule = BadLine }) b.1 in
     let order : IsInOrder (statements_of lines) (declarations_of (statements_of lines)) (map happening (events_from 0 lines)) =
     subst (λ (es : List Event). IsInOrder (statements_of lines) (declarations_of (statements_of lines)) es) (sym (happening_lines 0 lines)) (ordered_is (statements_of lines) (head_is (front_of []) lines refl keeps) c.0) in
@@ -130,7 +124,7 @@ was_read laws script told e =
     let tells : IsScriptOf s.told (record { declarations = declarations_of (statements_of lines); events = events_from 0 lines }) = record { order = spelled_order; events = sym s.events } in (
       s.told,
       record {
-        spelled = record { texts = s.texts; spelled = s.spelled; script_is = sym (laws.joined script) ∙ (ap joined_lines s.lines_are ∙ joined_ended s.texts) };
+        spelled = record { texts = s.texts; spelled = s.spelled; script_is = sym (joined-lines_of script) ∙ (ap joined_lines s.lines_are ∙ joined_ended s.texts) };
         tells = subst (IsScriptOf s.told) c.1 tells;
         kept = all_kept lines b.0;
         small = a.0;
@@ -149,42 +143,42 @@ unfolding keyword_of
 comment_says_nothing [] e = refl
 comment_says_nothing (c ∷ cs) e = ap (λ (b : ℕ). statement_of (b ∷ cs)) (eqb-true c 35 e) ∙ hash_says_nothing (words_of cs)
 
-not_passed : (laws : WordLaws) (s : Statement) (text : List ℕ) → Spells s text → is_passed_over text ≡ false
-not_passed laws s text h =
+not_passed : (s : Statement) (text : List ℕ) → Spells s text → is_passed_over text ≡ false
+not_passed s text h =
     elim (cases_Bool (is_passed_over text)) [
-      | inl passed ↦ absurd (let none : None ≡ Some s = sym (comment_says_nothing text passed) ∙ line_only laws s text h in cc)
+      | inl passed ↦ absurd (let none : None ≡ Some s = sym (comment_says_nothing text passed) ∙ line_only s text h in cc)
       | inr said ↦ said
     ]
 
-line_says : WordLaws → (line : ScriptLine) (text : List ℕ) → SpellsLine line text → statements_by (ended_line text) ≡ says line
-line_says laws (Passed passed) text h = rw h.1 refl
-line_says laws (Says s) text h = rw (not_passed laws s text h, line_only laws s text h) refl
+line_says : (line : ScriptLine) (text : List ℕ) → SpellsLine line text → statements_by (ended_line text) ≡ says line
+line_says (Passed passed) text h = rw h.1 refl
+line_says (Says s) text h = rw (not_passed s text h, line_only s text h) refl
 
-line_feeds : WordLaws → (line : ScriptLine) (text : List ℕ) → SpellsLine line text → IsTrue (lacks 10 text)
-line_feeds laws (Passed passed) text h = h.2
-line_feeds laws (Says s) text h = line_lacks laws s text h
+line_feeds : (line : ScriptLine) (text : List ℕ) → SpellsLine line text → IsTrue (lacks 10 text)
+line_feeds (Passed passed) text h = h.2
+line_feeds (Says s) text h = line_lacks s text h
 
-all_feeds : WordLaws → (lines : List ScriptLine) (texts : Texts) → SpellLines lines texts → AllByRecursion (λ text. IsTrue (lacks 10 text)) texts
-all_feeds laws [] [] h = tt
-all_feeds laws [] (t ∷ ts) h = absurd h
-all_feeds laws (l ∷ ls) [] h = absurd h
-all_feeds laws (l ∷ ls) (t ∷ ts) h = (line_feeds laws l t h.0, all_feeds laws ls ts h.1)
+all_feeds : (lines : List ScriptLine) (texts : Texts) → SpellLines lines texts → AllByRecursion (λ text. IsTrue (lacks 10 text)) texts
+all_feeds [] [] h = tt
+all_feeds [] (t ∷ ts) h = absurd h
+all_feeds (l ∷ ls) [] h = absurd h
+all_feeds (l ∷ ls) (t ∷ ts) h = (line_feeds l t h.0, all_feeds ls ts h.1)
 
-all_say : WordLaws → (lines : List ScriptLine) (texts : Texts) → SpellLines lines texts → statements_of (map ended_line texts) ≡ flat_map says lines
-all_say laws [] [] h = refl
-all_say laws [] (t ∷ ts) h = absurd h
-all_say laws (l ∷ ls) [] h = absurd h
-all_say laws (l ∷ ls) (t ∷ ts) h = ap (λ (ss : List Statement). ss ++ statements_of (map ended_line ts)) (line_says laws l t h.0) ∙ ap (λ (ss : List Statement). says l ++ ss) (all_say laws ls ts h.1)
+all_say : (lines : List ScriptLine) (texts : Texts) → SpellLines lines texts → statements_of (map ended_line texts) ≡ flat_map says lines
+all_say [] [] h = refl
+all_say [] (t ∷ ts) h = absurd h
+all_say (l ∷ ls) [] h = absurd h
+all_say (l ∷ ls) (t ∷ ts) h = ap (λ (ss : List Statement). ss ++ statements_of (map ended_line ts)) (line_says l t h.0) ∙ ap (λ (ss : List Statement). says l ++ ss) (all_say ls ts h.1)
 
-all_tell : WordLaws → (before : ℕ) (lines : List ScriptLine) (texts : Texts) → SpellLines lines texts → events_from before (map ended_line texts) ≡ events_told before lines
-all_tell laws before [] [] h = refl
-all_tell laws before [] (t ∷ ts) h = absurd h
-all_tell laws before (l ∷ ls) [] h = absurd h
-all_tell laws before (l ∷ ls) (t ∷ ts) h =
-    ap (λ (ss : List Statement). flat_map (numbered (before + 1)) ss ++ events_from (before + 1) (map ended_line ts)) (line_says laws l t h.0) ∙ ap (λ (es : List Numbered). flat_map (numbered (before + 1)) (says l) ++ es) (all_tell laws (before + 1) ls ts h.1)
+all_tell : (before : ℕ) (lines : List ScriptLine) (texts : Texts) → SpellLines lines texts → events_from before (map ended_line texts) ≡ events_told before lines
+all_tell before [] [] h = refl
+all_tell before [] (t ∷ ts) h = absurd h
+all_tell before (l ∷ ls) [] h = absurd h
+all_tell before (l ∷ ls) (t ∷ ts) h =
+    ap (λ (ss : List Statement). flat_map (numbered (before + 1)) ss ++ events_from (before + 1) (map ended_line ts)) (line_says l t h.0) ∙ ap (λ (es : List Numbered). flat_map (numbered (before + 1)) (says l) ++ es) (all_tell (before + 1) ls ts h.1)
 
-pub script_lines : LineLaws → (lines : List ScriptLine) (script : List ℕ) → (s : SpellScript lines script) → lines_of script ≡ map ended_line s.texts
-script_lines laws lines script s = ap lines_of s.script_is ∙ laws.spelled s.texts (all_feeds laws.words lines s.texts s.spelled)
+pub script_lines : (lines : List ScriptLine) (script : List ℕ) → (s : SpellScript lines script) → lines_of script ≡ map ended_line s.texts
+script_lines lines script s = ap lines_of s.script_is ∙ lines_of-spelled s.texts (all_feeds lines s.texts s.spelled)
 
 -- statements in order are whole, and declare and tell what their order says
 record AreWhole (ss : List Statement) (ds : List Declaration) : Type 0 where
@@ -195,13 +189,13 @@ whole_is : (ss : List Statement) (ds : List Declaration) (es : List Event) → I
 whole_is [] ds es h = record { whole = refl; declared = sym h.0 }
 whole_is (s ∷ ss) ds es h = record { whole = ap (list_any is_begin) h ∙ ordered_begins ds es; declared = ap declarations_of h ∙ ordered_declare ds es }
 
-pub is_read : LineLaws → (script : List ℕ) (lines : List ScriptLine) (told : ScriptTold) → IsReadAs script lines told → reading_of script ≡ Ok told
-is_read laws script lines told h =
+pub is_read : (script : List ℕ) (lines : List ScriptLine) (told : ScriptTold) → IsReadAs script lines told → reading_of script ≡ Ok told
+is_read script lines told h =
     let s : SpellScript lines script = h.spelled in
     let kept : first_refused [] (lines_of script) ≡ None = kept_all (lines_of script) h.kept in
-    let are : lines_of script ≡ map ended_line s.texts = script_lines laws lines script s in
-    let statements : statements_of (lines_of script) ≡ flat_map says lines = ap statements_of are ∙ all_say laws.words lines s.texts s.spelled in
-    let events : events_from 0 (lines_of script) ≡ told.events = ap (events_from 0) are ∙ (all_tell laws.words 0 lines s.texts s.spelled ∙ sym h.tells.events) in
+    let are : lines_of script ≡ map ended_line s.texts = script_lines lines script s in
+    let statements : statements_of (lines_of script) ≡ flat_map says lines = ap statements_of are ∙ all_say lines s.texts s.spelled in
+    let events : events_from 0 (lines_of script) ≡ told.events = ap (events_from 0) are ∙ (all_tell 0 lines s.texts s.spelled ∙ sym h.tells.events) in
     let w = whole_is (flat_map says lines) told.declarations (map happening told.events) h.tells.order in
     let whole : (says_nothing (statements_of (lines_of script)) || list_any is_begin (statements_of (lines_of script))) ≡ true = ap (λ (ss : List Statement). says_nothing ss || list_any is_begin ss) statements ∙ w.whole in
     let declared : declarations_of (statements_of (lines_of script)) ≡ told.declarations = ap declarations_of statements ∙ w.declared in
@@ -211,27 +205,27 @@ is_read laws script lines told h =
 
 -- ---- one spelling
 
-line_same : WordLaws → (l k : ScriptLine) (text : List ℕ) → SpellsLine l text → SpellsLine k text → l ≡ k
-line_same laws (Passed p) (Passed q) text h i = ap Passed (sym h.0 ∙ i.0)
-line_same laws (Passed p) (Says s) text h i = absurd (both_ways (is_passed_over text) (not_passed laws s text i) h.1)
-line_same laws (Says s) (Passed q) text h i = absurd (both_ways (is_passed_over text) (not_passed laws s text h) i.1)
-line_same laws (Says s) (Says t) text h i = ap Says (some_is s t (sym (line_only laws s text h) ∙ line_only laws t text i))
+line_same : (l k : ScriptLine) (text : List ℕ) → SpellsLine l text → SpellsLine k text → l ≡ k
+line_same (Passed p) (Passed q) text h i = ap Passed (sym h.0 ∙ i.0)
+line_same (Passed p) (Says s) text h i = absurd (both_ways (is_passed_over text) (not_passed s text i) h.1)
+line_same (Says s) (Passed q) text h i = absurd (both_ways (is_passed_over text) (not_passed s text h) i.1)
+line_same (Says s) (Says t) text h i = ap Says (some_is s t (sym (line_only s text h) ∙ line_only t text i))
 
-lines_same : WordLaws → (ls ks : List ScriptLine) (texts : Texts) → SpellLines ls texts → SpellLines ks texts → ls ≡ ks
-lines_same laws [] [] [] h i = refl
-lines_same laws [] [] (t ∷ ts) h i = refl
-lines_same laws [] (k ∷ ks) [] h i = absurd i
-lines_same laws [] (k ∷ ks) (t ∷ ts) h i = absurd h
-lines_same laws (l ∷ ls) ks [] h i = absurd h
-lines_same laws (l ∷ ls) [] (t ∷ ts) h i = absurd i
-lines_same laws (l ∷ ls) (k ∷ ks) (t ∷ ts) h i = ap (λ (x : ScriptLine). x ∷ ls) (line_same laws l k t h.0 i.0) ∙ ap (λ (xs : List ScriptLine). k ∷ xs) (lines_same laws ls ks ts h.1 i.1)
+lines_same : (ls ks : List ScriptLine) (texts : Texts) → SpellLines ls texts → SpellLines ks texts → ls ≡ ks
+lines_same [] [] [] h i = refl
+lines_same [] [] (t ∷ ts) h i = refl
+lines_same [] (k ∷ ks) [] h i = absurd i
+lines_same [] (k ∷ ks) (t ∷ ts) h i = absurd h
+lines_same (l ∷ ls) ks [] h i = absurd h
+lines_same (l ∷ ls) [] (t ∷ ts) h i = absurd i
+lines_same (l ∷ ls) (k ∷ ks) (t ∷ ts) h i = ap (λ (x : ScriptLine). x ∷ ls) (line_same l k t h.0 i.0) ∙ ap (λ (xs : List ScriptLine). k ∷ xs) (lines_same ls ks ts h.1 i.1)
 
 texts_of : (texts : Texts) → map (λ (l : Line). l.text) (map ended_line texts) ≡ texts
 texts_of [] = refl
 texts_of (t ∷ ts) = ap (λ (us : Texts). t ∷ us) (texts_of ts)
 
-pub one_spelling : LineLaws → (script : List ℕ) (ls ks : List ScriptLine) → SpellScript ls script → SpellScript ks script → ls ≡ ks
-one_spelling laws script ls ks a b =
-    let lines : map ended_line a.texts ≡ map ended_line b.texts = sym (script_lines laws ls script a) ∙ script_lines laws ks script b in
+pub one_spelling : (script : List ℕ) (ls ks : List ScriptLine) → SpellScript ls script → SpellScript ks script → ls ≡ ks
+one_spelling script ls ks a b =
+    let lines : map ended_line a.texts ≡ map ended_line b.texts = sym (script_lines ls script a) ∙ script_lines ks script b in
     let texts : a.texts ≡ b.texts = sym (texts_of a.texts) ∙ (ap (λ (xs : List Line). map (λ (l : Line). l.text) xs) lines ∙ texts_of b.texts) in
-    lines_same laws.words ls ks b.texts (subst (SpellLines ls) texts a.spelled) b.spelled
+    lines_same ls ks b.texts (subst (SpellLines ls) texts a.spelled) b.spelled

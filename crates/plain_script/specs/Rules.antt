@@ -2,6 +2,7 @@
 use Rattle.std.specs.Prelude.{ℕ, ◌≡◌, Bool, true, false, not, ◌&&◌, ◌||◌, if◌then◌else◌, nat_lt, nat_le, List, [], ◌∷◌, ◌++◌, length, count_by, Option, Some, None}
 use Rattle.std.specs.List.{list_any, flat_map}
 use Rattle.std.specs.Str.{bytes_eq}
+use Rattle.line_text.specs.Faults.{broken_if}
 use Rattle.plain_script.specs.Bound.{is_ledger, is_deal, is_party, is_thing, is_bound, parties_of, is_ledger_line, is_deal_line, is_opening_line, is_good_row, are_different}
 use Rattle.plain_script.specs.RuleNames.{rule_number}
 use Rattle.plain_script.specs.declared.declaration.Declaration.{Declaration}
@@ -16,9 +17,6 @@ use Rattle.plain_script.specs.declared.place.Place.{Place}
 use Rattle.plain_script.specs.declared.place.Place.TheVariants.{Head, Declarations, Events}
 
 -- ---- the rule that a declaration breaks, the least of them
-
-abbrev pub broken_if : Bool → ScriptRule → Option ScriptRule → Option ScriptRule
-broken_if broken rule other = if broken then Some rule else other
 
 abbrev pub ledger_rule : List Declaration → List ℕ → Option ScriptRule
 ledger_rule ds name = broken_if (is_bound ds name) NameTwice (broken_if (nat_le 8 (count_by is_ledger_line ds)) TooMany None)

@@ -5,7 +5,7 @@ use Rattle.std.specs.Option.{option_map}
 use Rattle.std.specs.Str.{bytes_eq}
 use Rattle.dh_base.specs.Names.{is_name}
 use Rattle.line_text.specs.Words.{words_of}
-use Rattle.line_text.specs.Reading.{◌>>=◌, name_word, amount_word, number_u32_word}
+use Rattle.line_text.specs.Reading.{◌>>=◌, name_word, amount_word, number_u32_word, ended}
 use Rattle.plain_script.specs.declared.keyword.Keyword.{Keyword}
 use Rattle.plain_script.specs.declared.keyword.Keyword.TheVariants as key
 use Rattle.plain_script.specs.declared.declaration.Declaration.{Declaration}
@@ -60,11 +60,6 @@ either_keyword None other = other
 
 unfoldable pub keyword_of : List ℕ → Option Keyword
 keyword_of word = either_keyword (opening_keyword word) (event_keyword word)
-
--- nothing follows
-abbrev pub ended : {A : Type 0} → List (List ℕ) → A → Option A
-ended [] x = Some x
-ended (w ∷ ws) x = None
 
 -- all the words, where each is a name
 abbrev pub names_only : List (List ℕ) → Option (List (List ℕ))

@@ -10,11 +10,6 @@ ghost use Rattle.plain_script.specs.Statements.{statement_of};
 ghost use Rattle.plain_script.specs.declared.rule.ScriptRule.{ScriptRule};
 ghost use Rattle.plain_script.specs.declared.statement.Statement.{Statement};
 
-use line_text::laws::{
-    decimal_of_number, lines_of_spelled_lines, number_of_decimal, one_list_of_lines, plain_lines,
-    plain_words, spelled_words_of, words_of_spelled_words,
-};
-
 /// The line that is refused is the first one that breaks a rule, and none is refused where none breaks one.
 pub fn first_line()
     ensures some { (lines : List Line) (k : ℕ) (rule : ScriptRule) →
@@ -27,72 +22,31 @@ pub fn first_line()
 /// A line that spells a statement says that statement.
 pub fn statement_of_spelled()
     ensures { (statement : Statement) (line : List ℕ) → Spells statement line → statement_of line ≡ Some statement }
-{
-    number_of_decimal();
-    decimal_of_number();
-    plain_words();
-    plain_lines();
-    words_of_spelled_words();
-    spelled_words_of();
-}
+{}
 
 /// A line that says a statement spells it.
 pub fn spelled_of_statement()
     ensures { (line : List ℕ) (statement : Statement) → statement_of line ≡ Some statement → Spells statement line }
-{
-    number_of_decimal();
-    decimal_of_number();
-    plain_words();
-    plain_lines();
-    words_of_spelled_words();
-    spelled_words_of();
-}
+{}
 
 /// What is read is spelled by lines that keep the rules: none that says anything, or the head, declarations, `begin` and
 /// events in this order, and these are what reading gives, each event with the number of its line.
 pub fn found()
     ensures { (script : List ℕ) (told : ScriptTold) → reading_of script ≡ Ok told →
         (lines : List ScriptLine) × IsReadAs script lines told }
-{
-    number_of_decimal();
-    decimal_of_number();
-    plain_words();
-    plain_lines();
-    words_of_spelled_words();
-    spelled_words_of();
-    lines_of_spelled_lines();
-    one_list_of_lines();
-}
+{}
 
 /// What is spelled so, keeps the rules and isn't too large is read so.
 pub fn only()
     ensures { (script : List ℕ) (lines : List ScriptLine) (told : ScriptTold) → IsReadAs script lines told →
         reading_of script ≡ Ok told }
-{
-    number_of_decimal();
-    decimal_of_number();
-    plain_words();
-    plain_lines();
-    words_of_spelled_words();
-    spelled_words_of();
-    lines_of_spelled_lines();
-    one_list_of_lines();
-}
+{}
 
 /// Bytes spell one list of lines at most.
 pub fn one_reading()
     ensures { (script : List ℕ) (lines others : List ScriptLine) → SpellScript lines script → SpellScript others script →
         lines ≡ others }
-{
-    number_of_decimal();
-    decimal_of_number();
-    plain_words();
-    plain_lines();
-    words_of_spelled_words();
-    spelled_words_of();
-    lines_of_spelled_lines();
-    one_list_of_lines();
-}
+{}
 
 /// The declarations that are read keep the rules, each behind those before it, and 32 bits count the events.
 pub fn read_by_rules()

@@ -1,8 +1,9 @@
 //! What the lines so far say, line by line.
 
 ghost use Rattle.std.specs.Prelude.{◌≡◌, ◌<◌, ◌≤◌, ◌+◌, ◌-◌, ◌^◌, nat_le, [], Ok, Some, None, IfOk, IfNone, OnOk};
+ghost use Rattle.line_text.specs.Faults.{broken_if};
 ghost use Rattle.line_text.specs.Seen.{line_of};
-ghost use Rattle.plain_script.specs.Rules.{statement_rule, event_rule, said_rule, broken_if, lesser_rule};
+ghost use Rattle.plain_script.specs.Rules.{statement_rule, event_rule, said_rule, lesser_rule};
 ghost use Rattle.plain_script.specs.declared.rule.ScriptRule.TheVariants.{TooMany};
 ghost use Rattle.plain_script.specs.Fronts.{front_of, rule_behind, stated, stated_all, happened, front_after};
 ghost use Rattle.plain_script.specs.Reading.{to_list};

@@ -1,10 +1,10 @@
 //! Reading what a line says, from its words.
 
 ghost use Rattle.std.specs.Prelude.{◌≡◌, IfOk};
+ghost use Rattle.line_text.specs.Reading.{ended as none_left};
 ghost use Rattle.plain_script.specs.declared.event.Event.TheVariants.{Start as StartOf, Commit as CommitOf, Abort as AbortOf};
 ghost use Rattle.plain_script.specs.Statements.{
   names_only,
-  ended as none_left,
   ledger_after,
   open_after,
   deal_after,

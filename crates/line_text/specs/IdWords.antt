@@ -1,9 +1,8 @@
 -- Ids as words: 64 lower-case hexadecimal digits, two for each byte.
-use Rattle.std.specs.Prelude.{ℕ, ◌+◌, ◌-◌, ◌*◌, Bool, ◌&&◌, ◌||◌, ◌==◌, nat_le, if◌then◌else◌, List, [], ◌∷◌, length, Option, Some, None}
-use Rattle.std.specs.List.{list_all}
+use Rattle.std.specs.Prelude.{ℕ, ◌≡◌, ◌<◌, ◌+◌, ◌-◌, ◌*◌, Bool, ◌&&◌, ◌||◌, ◌==◌, nat_le, if◌then◌else◌, List, [], ◌∷◌, length, Option, Some, None}
+use Rattle.std.specs.List.{list_all, AllByRecursion}
 use Rattle.dh_base.specs.Names.{is_digit}
 use Rattle.dh_base.specs.declared.id.Id.{Id}
-use Rattle.line_text.specs.Reading.{◌>>=◌, first_word}
 
 -- a decimal digit or one of the letters `a` to `f`
 abbrev pub is_hex_digit : ℕ → Bool
@@ -24,8 +23,6 @@ is_id word = length word == 64 && list_all is_hex_digit word
 abbrev pub id_of : List ℕ → Option Id
 id_of word = if is_id word then Some (record { 0 = bytes_of_hex word }) else None
 
-unfoldable pub id_word : List (List ℕ) → Option (Id × List (List ℕ))
-id_word words = do
-  word ← first_word words
-  id ← id_of word.0
-  Some (id, word.1)
+-- an id is 32 bytes
+abbrev pub IsId : Id → Type 0
+IsId id = (length id.0 ≡ 32) × AllByRecursion (λ byte. byte < 256) id.0

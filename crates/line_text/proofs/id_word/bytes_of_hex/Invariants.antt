@@ -1,6 +1,6 @@
 use Rattle.std.proofs.Common.{◌≡◌, ◌*◌, ◌++◌, take, drop, length}
-use Rattle.deal_core.specs.IdWords.{bytes_of_hex}
-use Rattle.deal_core.proofs.id_word.bytes_of_hex.Given as goal
+use Rattle.line_text.specs.IdWords.{bytes_of_hex}
+use Rattle.line_text.proofs.id_word.bytes_of_hex.Given as goal
 
 abbrev pub invariant-loop-place : goal.invariant-loop-place
 invariant-loop-place l = record {

@@ -1,11 +1,10 @@
 //! Ids as words.
 
-ghost use Rattle.std.specs.Prelude.{◌≡◌, IfSome, IfNone, Some, None, IsTrue, length};
+ghost use Rattle.std.specs.Prelude.{◌≡◌, Some, None, IsTrue, length};
 ghost use Rattle.std.specs.List.{list_all};
-ghost use Rattle.deal_core.specs.IdWords.{is_hex_digit, hex_value, is_id, bytes_of_hex, id_of, id_word};
+ghost use Rattle.line_text.specs.IdWords.{is_hex_digit, hex_value, is_id, bytes_of_hex, id_of};
 
 use dh_base::Id;
-use line_text::Words;
 
 /// A decimal digit or one of the letters `a` to `f`.
 fn is_hex_digit(c: u8) -> bool
@@ -49,7 +48,7 @@ fn bytes_of_hex(word: &[u8]) -> [u8; 32]
 }
 
 /// The id that the word is: 64 lower-case hexadecimal digits.
-fn id_of(word: &[u8]) -> Option<Id>
+pub(crate) fn id_of(word: &[u8]) -> Option<Id>
     ensures { result ≡ id_of word.now }
 {
     if is_id(word) {
@@ -57,14 +56,4 @@ fn id_of(word: &[u8]) -> Option<Id>
     } else {
         None
     }
-}
-
-/// Takes the next word, where it is an id.
-#[tactic(auto, unfolding(crate::specs::IdWords::id_word))]
-pub(crate) fn take_id(words: &mut Words<'_>) -> Option<Id>
-    ensures id { IfSome result (λ id. id_word words.old ≡ Some (id, words.new)) }
-    ensures none { IfNone result (id_word words.old ≡ None) }
-{
-    let word = words.next_word()?;
-    id_of(word)
 }

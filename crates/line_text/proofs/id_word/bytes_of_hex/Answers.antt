@@ -1,7 +1,7 @@
 use Rattle.std.proofs.Common.{arith, ◌∙◌}
 use Rattle.std.proofs.lemmas.List.{length-set}
-use Rattle.deal_core.proofs.HexWords.{hex_more, id_long}
-use Rattle.deal_core.proofs.id_word.bytes_of_hex.Goals as goal
+use Rattle.line_text.proofs.HexWords.{hex_more, id_long}
+use Rattle.line_text.proofs.id_word.bytes_of_hex.Goals as goal
 
 pub loop-place-preserved : goal.loop-place-preserved
 loop-place-preserved c =

@@ -7,7 +7,7 @@ use Rattle.dh_base.specs.Names.{is_digit}
 use Rattle.dh_base.specs.Spelled.{hex_byte, hex_text}
 use Rattle.std.proofs.Math.Seq.{drop-cons, take-suc-set}
 use Rattle.std.specs.List.{list_all}
-use Rattle.deal_core.specs.IdWords.{hex_value, is_hex_digit, is_id, bytes_of_hex}
+use Rattle.line_text.specs.IdWords.{hex_value, is_hex_digit, is_id, bytes_of_hex}
 
 -- the byte of two digits
 abbrev byte_at : List ℕ → ℕ → ℕ

@@ -7,8 +7,7 @@ use Rattle.std.proofs.lemmas.Nat.{div-add-mod'}
 use Rattle.dh_base.specs.Spelled.{hex_text}
 use Rattle.dh_base.specs.declared.id.Id.{Id}
 use Rattle.line_text.specs.Bytes.{lacks}
-use Rattle.deal_core.specs.DealText.{IsId}
-use Rattle.deal_core.specs.IdWords.{is_hex_digit, hex_value, is_id, bytes_of_hex}
+use Rattle.line_text.specs.IdWords.{is_hex_digit, hex_value, is_id, bytes_of_hex, IsId}
 
 -- what is known of the digit of a value
 pub record IsDigitOf (v : ℕ) : Type 0 where
