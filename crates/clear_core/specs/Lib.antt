@@ -1,7 +1,7 @@
 pub mod Clearing
 pub mod Holdings
-pub mod Pairs
 pub mod Plans
+pub mod Pairs
 pub mod TermsKept
 pub mod TermFaults
 pub mod Summaries

@@ -1,9 +1,9 @@
 pub mod Deals
 pub mod DealText
 pub mod Kept
-pub mod Marks
-pub mod Said
 pub mod DealFaults
-pub mod Drafts
-pub mod Reading
 pub mod Positions
+pub mod Reading
+pub mod Drafts
+pub mod Said
+pub mod Marks

@@ -7,7 +7,7 @@ use Rattle.line_text.specs.Numbers.{number_of, in_32_bits}
 use Rattle.line_text.specs.Reading.{number_u32_word}
 use Rattle.line_text.proofs.Decimals.{number_of-decimal, decimal-number_of}
 use Rattle.line_text.proofs.WordReading.{Words, bind_some, some_is}
-use Rattle.plain_script.specs.Statements.{keyword_text, opening_keyword, event_keyword, either_keyword, keyword_of}
+use Rattle.plain_script.specs.Said.{keyword_text, opening_keyword, event_keyword, either_keyword, keyword_of}
 use Rattle.plain_script.specs.Spelling.{SpellsNumber}
 use Rattle.plain_script.specs.declared.keyword.Keyword.{Keyword}
 use Rattle.plain_script.specs.declared.keyword.Keyword.TheVariants as key

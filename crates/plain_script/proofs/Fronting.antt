@@ -6,8 +6,8 @@ use Rattle.std.proofs.lemmas.List.Concat.{flat_map-append}
 use Rattle.std.proofs.lemmas.List.Folds.{list_any-append}
 use Rattle.line_text.specs.Lines.{Line, lines_of, onto_first_line}
 use Rattle.plain_script.specs.Rules.{place_after, declarations_of, declared_by, is_begin}
-use Rattle.plain_script.specs.Reading.{Refused, to_list, passes_over, said_by, statements_by, statements_of, events_from, numbered, line_rule, at_line, first_refused, reading_whole, reading_lines}
-use Rattle.plain_script.specs.Fronts.{Front, front_of, rule_behind, next_place, stated, stated_all, counted, front_after}
+use Rattle.plain_script.specs.Reading.{Refused, to_list, passes_over, said_by, statements_by, statements_of, events_from, events_at, line_rule, at_line, first_refused, reading_whole, reading_lines}
+use Rattle.plain_script.specs.Fronts.{Front, front_of, rule_behind, next_place, stated, stated_all, past_line, front_after}
 use Rattle.plain_script.specs.Answers.{whole_of}
 use Rattle.plain_script.specs.declared.numbered.Numbered.{Numbered}
 use Rattle.plain_script.specs.declared.declaration.Declaration.{Declaration}
@@ -42,22 +42,22 @@ declarations_push : (ss : List Statement) (s : Statement) → declarations_of (s
 declarations_push ss s = flat_map-append declared_by ss (s ∷ []) ∙ ap (λ (ds : List Declaration). declarations_of ss ++ ds) (append-nil (declared_by s))
 
 -- the statements of a line, stated one after another
-stated_more : (n : ℕ) (ss : List Statement) (events : List Numbered) (ts : List Statement) → made n (place_after (ss ++ ts)) (declarations_of (ss ++ ts)) (events ++ flat_map (numbered (n + 1)) ts) ≡ stated_all (made n (place_after ss) (declarations_of ss) events) ts
+stated_more : (n : ℕ) (ss : List Statement) (events : List Numbered) (ts : List Statement) → made n (place_after (ss ++ ts)) (declarations_of (ss ++ ts)) (events ++ flat_map (events_at (n + 1)) ts) ≡ stated_all (made n (place_after ss) (declarations_of ss) events) ts
 stated_more n ss events [] = made_same n _ _ _ _ _ _ (ap place_after (append-nil ss)) (ap declarations_of (append-nil ss)) (append-nil events)
 stated_more n ss events (t ∷ ts) =
     let joined : ss ++ t ∷ ts ≡ (ss ++ t ∷ []) ++ ts = sym (append_assoc ss (t ∷ []) ts) in
-    let events_joined : events ++ (numbered (n + 1) t ++ flat_map (numbered (n + 1)) ts) ≡ (events ++ numbered (n + 1) t) ++ flat_map (numbered (n + 1)) ts = sym (append_assoc events (numbered (n + 1) t) (flat_map (numbered (n + 1)) ts)) in
-    let first : made n (place_after (ss ++ t ∷ [])) (declarations_of (ss ++ t ∷ [])) (events ++ numbered (n + 1) t) ≡ stated (made n (place_after ss) (declarations_of ss) events) t = made_same n _ _ _ _ _ _ (place_push ss t) (declarations_push ss t) refl in
+    let events_joined : events ++ (events_at (n + 1) t ++ flat_map (events_at (n + 1)) ts) ≡ (events ++ events_at (n + 1) t) ++ flat_map (events_at (n + 1)) ts = sym (append_assoc events (events_at (n + 1) t) (flat_map (events_at (n + 1)) ts)) in
+    let first : made n (place_after (ss ++ t ∷ [])) (declarations_of (ss ++ t ∷ [])) (events ++ events_at (n + 1) t) ≡ stated (made n (place_after ss) (declarations_of ss) events) t = made_same n _ _ _ _ _ _ (place_push ss t) (declarations_push ss t) refl in
     made_same n _ _ _ _ _ _ (ap place_after joined) (ap declarations_of joined) events_joined
-    ∙ (stated_more n (ss ++ t ∷ []) (events ++ numbered (n + 1) t) ts ∙ ap (λ (f : Front). stated_all f ts) first)
+    ∙ (stated_more n (ss ++ t ∷ []) (events ++ events_at (n + 1) t) ts ∙ ap (λ (f : Front). stated_all f ts) first)
 
-events_push : (n : ℕ) (lines : List Line) (line : Line) → events_from n (lines ++ line ∷ []) ≡ events_from n lines ++ flat_map (numbered ((n + length lines) + 1)) (statements_by line)
-events_push n [] line = append-nil (flat_map (numbered (n + 1)) (statements_by line)) ∙ ap (λ k. flat_map (numbered (k + 1)) (statements_by line)) (omega arith)
+events_push : (n : ℕ) (lines : List Line) (line : Line) → events_from n (lines ++ line ∷ []) ≡ events_from n lines ++ flat_map (events_at ((n + length lines) + 1)) (statements_by line)
+events_push n [] line = append-nil (flat_map (events_at (n + 1)) (statements_by line)) ∙ ap (λ k. flat_map (events_at (k + 1)) (statements_by line)) (omega arith)
 events_push n (l ∷ ls) line =
     let number : (n + 1) + length ls ≡ n + suc (length ls) = omega arith in
-    let more : events_from (n + 1) (ls ++ line ∷ []) ≡ events_from (n + 1) ls ++ flat_map (numbered ((n + suc (length ls)) + 1)) (statements_by line) = events_push (n + 1) ls line ∙ ap (λ k. events_from (n + 1) ls ++ flat_map (numbered (k + 1)) (statements_by line)) number in
-    ap (λ (es : List Numbered). flat_map (numbered (n + 1)) (statements_by l) ++ es) more
-    ∙ sym (append_assoc (flat_map (numbered (n + 1)) (statements_by l)) (events_from (n + 1) ls) (flat_map (numbered ((n + suc (length ls)) + 1)) (statements_by line)))
+    let more : events_from (n + 1) (ls ++ line ∷ []) ≡ events_from (n + 1) ls ++ flat_map (events_at ((n + suc (length ls)) + 1)) (statements_by line) = events_push (n + 1) ls line ∙ ap (λ k. events_from (n + 1) ls ++ flat_map (events_at (k + 1)) (statements_by line)) number in
+    ap (λ (es : List Numbered). flat_map (events_at (n + 1)) (statements_by l) ++ es) more
+    ∙ sym (append_assoc (flat_map (events_at (n + 1)) (statements_by l)) (events_from (n + 1) ls) (flat_map (events_at ((n + suc (length ls)) + 1)) (statements_by line)))
 
 statements_push : (lines : List Line) (line : Line) → statements_of (lines ++ line ∷ []) ≡ statements_of lines ++ statements_by line
 statements_push lines line = flat_map-append statements_by lines (line ∷ []) ∙ ap (λ (ss : List Statement). statements_of lines ++ ss) (append-nil (statements_by line))
@@ -68,30 +68,30 @@ front_push lines line =
     let ts : List Statement = statements_by line in
     let n : ℕ = length lines in
     let start : n + 1 ≡ (0 + n) + 1 = omega arith in
-    let events : events_from 0 (lines ++ line ∷ []) ≡ events_from 0 lines ++ flat_map (numbered (n + 1)) ts = events_push 0 lines line ∙ ap (λ k. events_from 0 lines ++ flat_map (numbered k) ts) (sym start) in
+    let events : events_from 0 (lines ++ line ∷ []) ≡ events_from 0 lines ++ flat_map (events_at (n + 1)) ts = events_push 0 lines line ∙ ap (λ k. events_from 0 lines ++ flat_map (events_at k) ts) (sym start) in
     let parts : made n (place_after (statements_of (lines ++ line ∷ []))) (declarations_of (statements_of (lines ++ line ∷ []))) (events_from 0 (lines ++ line ∷ [])) ≡ stated_all (front_of lines) ts = made_same n _ _ _ _ _ _ (ap place_after (statements_push lines line)) (ap declarations_of (statements_push lines line)) events ∙ stated_more n ss (events_from 0 lines) ts in
     ap (λ k. made k (place_after (statements_of (lines ++ line ∷ []))) (declarations_of (statements_of (lines ++ line ∷ []))) (events_from 0 (lines ++ line ∷ []))) (length_push lines line)
-    ∙ ap counted parts
+    ∙ ap past_line parts
 
 -- ---- as many events as lines at most
 
-statement_few : (n : ℕ) (s : Statement) → length (numbered n s) ≤ 1
+statement_few : (n : ℕ) (s : Statement) → length (events_at n s) ≤ 1
 statement_few n Plain = omega arith
 statement_few n House = omega arith
 statement_few n (Declare d) = omega arith
 statement_few n Begin = omega arith
 statement_few n (Happen e) = omega arith
 
-said_few : (n : ℕ) (said : Option Statement) → length (flat_map (numbered n) (to_list said)) ≤ 1
+said_few : (n : ℕ) (said : Option Statement) → length (flat_map (events_at n) (to_list said)) ≤ 1
 said_few n None = omega arith
-said_few n (Some s) = subst (λ k. k ≤ 1) (ap length (sym (append-nil (numbered n s)))) (statement_few n s)
+said_few n (Some s) = subst (λ k. k ≤ 1) (ap length (sym (append-nil (events_at n s)))) (statement_few n s)
 
-line_few : (n : ℕ) (line : Line) → length (flat_map (numbered n) (statements_by line)) ≤ 1
-line_few n line = elim (passes_over line) as (λ b. length (flat_map (numbered n) (cond b [] (to_list (said_by line)))) ≤ 1) [ true ↦ omega arith | false ↦ said_few n (said_by line) ]
+line_few : (n : ℕ) (line : Line) → length (flat_map (events_at n) (statements_by line)) ≤ 1
+line_few n line = elim (passes_over line) as (λ b. length (flat_map (events_at n) (cond b [] (to_list (said_by line)))) ≤ 1) [ true ↦ omega arith | false ↦ said_few n (said_by line) ]
 
 pub events_few : (n : ℕ) (lines : List Line) → length (events_from n lines) ≤ length lines
 events_few n [] = omega arith
-events_few n (line ∷ lines) = omega (arith, length-append (flat_map (numbered (n + 1)) (statements_by line)) (events_from (n + 1) lines), line_few (n + 1) line, events_few (n + 1) lines)
+events_few n (line ∷ lines) = omega (arith, length-append (flat_map (events_at (n + 1)) (statements_by line)) (events_from (n + 1) lines), line_few (n + 1) line, events_few (n + 1) lines)
 
 -- ---- no line left
 

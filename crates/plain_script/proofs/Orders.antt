@@ -5,9 +5,9 @@ use Rattle.std.proofs.lemmas.Bool.{and_parts, cases_Bool, cond-false}
 use Rattle.std.proofs.lemmas.List.{map-append}
 use Rattle.std.proofs.lemmas.List.Concat.{flat_map-append}
 use Rattle.line_text.specs.Lines.{Line, is_passed_over}
-use Rattle.plain_script.specs.Statements.{statement_of}
+use Rattle.plain_script.specs.Said.{statement_of}
 use Rattle.plain_script.specs.Rules.{declarations_of, declared_by, is_begin, lesser_rule, statement_rule, said_rule}
-use Rattle.plain_script.specs.Reading.{Refused, to_list, passes_over, said_by, statements_by, statements_of, events_from, numbered, line_rule, at_line, first_refused}
+use Rattle.plain_script.specs.Reading.{Refused, to_list, passes_over, said_by, statements_by, statements_of, events_from, events_at, line_rule, at_line, first_refused}
 use Rattle.plain_script.specs.Fronts.{Front, front_of, rule_behind, next_place, front_after}
 use Rattle.plain_script.specs.Spelling.{happening}
 use Rattle.plain_script.specs.declared.declaration.Declaration.{Declaration}
@@ -191,21 +191,21 @@ happened_by (Declare d) = []
 happened_by Begin = []
 happened_by (Happen e) = e ∷ []
 
-happening_one : (n : ℕ) (s : Statement) → map happening (numbered n s) ≡ happened_by s
+happening_one : (n : ℕ) (s : Statement) → map happening (events_at n s) ≡ happened_by s
 happening_one n Plain = refl
 happening_one n House = refl
 happening_one n (Declare d) = refl
 happening_one n Begin = refl
 happening_one n (Happen e) = refl
 
-happening_all : (n : ℕ) (ss : List Statement) → map happening (flat_map (numbered n) ss) ≡ flat_map happened_by ss
+happening_all : (n : ℕ) (ss : List Statement) → map happening (flat_map (events_at n) ss) ≡ flat_map happened_by ss
 happening_all n [] = refl
-happening_all n (s ∷ ss) = map-append happening (numbered n s) (flat_map (numbered n) ss) ∙ rw (happening_one n s, happening_all n ss) refl
+happening_all n (s ∷ ss) = map-append happening (events_at n s) (flat_map (events_at n) ss) ∙ rw (happening_one n s, happening_all n ss) refl
 
 pub happening_lines : (n : ℕ) (lines : List Line) → map happening (events_from n lines) ≡ flat_map happened_by (statements_of lines)
 happening_lines n [] = refl
 happening_lines n (line ∷ lines) =
-    map-append happening (flat_map (numbered (n + 1)) (statements_by line)) (events_from (n + 1) lines)
+    map-append happening (flat_map (events_at (n + 1)) (statements_by line)) (events_from (n + 1) lines)
     ∙ rw (happening_all (n + 1) (statements_by line), happening_lines (n + 1) lines) (sym (flat_map-append happened_by (statements_by line) (statements_of lines)))
 
 -- the statements of a script in order

@@ -5,9 +5,9 @@ use Rattle.std.proofs.lemmas.Bool.{cases_Bool, eqb-true, ltb-false, le-ltb, both
 use Rattle.line_text.specs.Bytes.{lacks}
 use Rattle.line_text.specs.Lines.{AreLines, Line, lines_of, ended_line, joined_lines, spelled_lines, is_passed_over}
 use Rattle.line_text.specs.Words.{words_of}
-use Rattle.plain_script.specs.Statements.{keyword_of, statement_of, statement_of_words}
+use Rattle.plain_script.specs.Said.{keyword_of, statement_of, statement_of_words}
 use Rattle.plain_script.specs.Rules.{declarations_of, is_begin}
-use Rattle.plain_script.specs.Reading.{Refused, ScriptTold, statements_by, statements_of, events_from, numbered, first_refused, says_nothing, reading_whole, reading_lines, most_bytes, reading_of}
+use Rattle.plain_script.specs.Reading.{Refused, ScriptTold, statements_by, statements_of, events_from, events_at, first_refused, says_nothing, reading_whole, reading_lines, reading_of, most_bytes}
 use Rattle.plain_script.specs.Fronts.{Front, front_of, front_after}
 use Rattle.plain_script.specs.Spelling.{Spells, ScriptLine, Passed, Says, SpellsLine, SpellLines, SpellScript, says, IsInOrder, events_told, happening, IsScriptOf, IsReadAs}
 use Rattle.plain_script.specs.declared.declaration.Declaration.{Declaration}
@@ -57,7 +57,7 @@ spelled_more before line lines told here ended says_it rest =
       spelled = (here, rest.spelled);
       lines_are = ap (λ (l : Line). l ∷ lines) line_is ∙ ap (λ (ls : List Line). ended_line line.text ∷ ls) rest.lines_are;
       statements = ap (λ (ss : List Statement). ss ++ flat_map says rest.told) says_it ∙ ap (λ (ss : List Statement). statements_by line ++ ss) rest.statements;
-      events = ap (λ (ss : List Statement). flat_map (numbered (before + 1)) ss ++ events_told (before + 1) rest.told) says_it ∙ ap (λ (es : List Numbered). flat_map (numbered (before + 1)) (statements_by line) ++ es) rest.events;
+      events = ap (λ (ss : List Statement). flat_map (events_at (before + 1)) ss ++ events_told (before + 1) rest.told) says_it ∙ ap (λ (es : List Numbered). flat_map (events_at (before + 1)) (statements_by line) ++ es) rest.events;
     }
 
 are_spelled : (before : ℕ) (front : Front) (lines : List Line) → Keeps front lines → NoFeeds lines → AreSpelled before lines
@@ -175,7 +175,7 @@ all_tell before [] [] h = refl
 all_tell before [] (t ∷ ts) h = absurd h
 all_tell before (l ∷ ls) [] h = absurd h
 all_tell before (l ∷ ls) (t ∷ ts) h =
-    ap (λ (ss : List Statement). flat_map (numbered (before + 1)) ss ++ events_from (before + 1) (map ended_line ts)) (line_says l t h.0) ∙ ap (λ (es : List Numbered). flat_map (numbered (before + 1)) (says l) ++ es) (all_tell (before + 1) ls ts h.1)
+    ap (λ (ss : List Statement). flat_map (events_at (before + 1)) ss ++ events_from (before + 1) (map ended_line ts)) (line_says l t h.0) ∙ ap (λ (es : List Numbered). flat_map (events_at (before + 1)) (says l) ++ es) (all_tell (before + 1) ls ts h.1)
 
 pub script_lines : (lines : List ScriptLine) (script : List ℕ) → (s : SpellScript lines script) → lines_of script ≡ map ended_line s.texts
 script_lines lines script s = ap lines_of s.script_is ∙ lines_of-spelled s.texts (all_feeds lines s.texts s.spelled)

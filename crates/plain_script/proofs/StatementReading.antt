@@ -7,7 +7,7 @@ use Rattle.std.specs.Option.{option_map}
 use Rattle.std.proofs.lemmas.Option.{cond_some}
 use Rattle.dh_base.specs.Names.{is_name}
 use Rattle.line_text.specs.Reading.{◌>>=◌, name_word, amount_word, number_u32_word, ended}
-use Rattle.plain_script.specs.Statements.{keyword_text, keyword_of, names_only, ledger_after, open_after, deal_after, register_after, escrow_after, transfer_after, log_after, claim_after, statement_after, statement_of_words}
+use Rattle.plain_script.specs.Said.{keyword_text, keyword_of, names_only, ledger_after, open_after, deal_after, register_after, escrow_after, transfer_after, log_after, claim_after, statement_after, statement_of_words}
 use Rattle.plain_script.specs.Spelling.{declaration_words, SpellsNumber, SpellsEvent, SpellsStatement, IsGoodDeclaration, IsGoodEvent, IsGoodStatement}
 use Rattle.plain_script.specs.declared.declaration.Declaration.{Declaration}
 use Rattle.plain_script.specs.declared.declaration.Declaration.TheVariants.{Ledger, Open, Deal}

@@ -2,7 +2,7 @@
 use Rattle.std.specs.Prelude.{ℕ, ◌+◌, if◌then◌else◌, List, [], ◌∷◌, ◌++◌, length, Option, None}
 use Rattle.line_text.specs.Lines.{Line}
 use Rattle.plain_script.specs.Rules.{place_after, declarations_of, declared_by, said_rule, is_begin}
-use Rattle.plain_script.specs.Reading.{passes_over, said_by, statements_by, statements_of, events_from, numbered}
+use Rattle.plain_script.specs.Reading.{passes_over, said_by, statements_by, statements_of, events_from, events_at}
 use Rattle.plain_script.specs.declared.declaration.Declaration.{Declaration}
 use Rattle.plain_script.specs.declared.event.Event.{Event}
 use Rattle.plain_script.specs.declared.numbered.Numbered.{Numbered}
@@ -40,7 +40,7 @@ stated front s = record {
   number = front.number;
   place = next_place front.place s;
   declarations = front.declarations ++ declared_by s;
-  events = front.events ++ numbered (front.number + 1) s;
+  events = front.events ++ events_at (front.number + 1) s;
 }
 
 -- with an event of the next line
@@ -51,8 +51,8 @@ abbrev pub stated_all : Front → List Statement → Front
 stated_all front [] = front
 stated_all front (s ∷ ss) = stated_all (stated front s) ss
 
-abbrev pub counted : Front → Front
+abbrev pub past_line : Front → Front
 counted front = record { number = front.number + 1; place = front.place; declarations = front.declarations; events = front.events }
 
 abbrev pub front_after : Front → Line → Front
-front_after front line = counted (stated_all front (statements_by line))
+front_after front line = past_line (stated_all front (statements_by line))

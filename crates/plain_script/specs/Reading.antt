@@ -2,7 +2,7 @@
 use Rattle.std.specs.Prelude.{ℕ, ◌+◌, Bool, true, false, ◌&&◌, ◌||◌, if◌then◌else◌, nat_lt, List, [], ◌∷◌, ◌++◌, length, Option, Some, None, Result, Ok, Err}
 use Rattle.std.specs.List.{list_any, flat_map}
 use Rattle.line_text.specs.Lines.{Line, lines_of, is_passed_over}
-use Rattle.plain_script.specs.Statements.{statement_of}
+use Rattle.plain_script.specs.Said.{statement_of}
 use Rattle.plain_script.specs.Rules.{place_after, declarations_of, said_rule, is_begin}
 use Rattle.plain_script.specs.declared.declaration.Declaration.{Declaration}
 use Rattle.plain_script.specs.declared.numbered.Numbered.{Numbered}
@@ -52,16 +52,16 @@ first_refused before [] = None
 first_refused before (line ∷ rest) = at_line (length before + 1) (line_rule before line) (first_refused (before ++ line ∷ []) rest)
 
 -- what happens, each with the number of its line
-abbrev pub numbered : ℕ → Statement → List Numbered
-numbered line Plain = []
-numbered line House = []
-numbered line (Declare d) = []
-numbered line Begin = []
-numbered line (Happen e) = record { line = line; event = e } ∷ []
+abbrev pub events_at : ℕ → Statement → List Numbered
+events_at line Plain = []
+events_at line House = []
+events_at line (Declare d) = []
+events_at line Begin = []
+events_at line (Happen e) = record { line = line; event = e } ∷ []
 
 abbrev pub events_from : ℕ → List Line → List Numbered
 events_from before [] = []
-events_from before (line ∷ rest) = flat_map (numbered (before + 1)) (statements_by line) ++ events_from (before + 1) rest
+events_from before (line ∷ rest) = flat_map (events_at (before + 1)) (statements_by line) ++ events_from (before + 1) rest
 
 -- a script that was read
 pub record ScriptTold : Type 0 where

@@ -3,6 +3,7 @@ use Rattle.std.specs.Prelude.{ℕ, ◌≡◌, Bool, true, false, not, ◌&&◌, 
 use Rattle.std.specs.List.{list_any, flat_map}
 use Rattle.std.specs.Str.{bytes_eq}
 use Rattle.line_text.specs.Faults.{broken_if}
+use Rattle.plain_script.specs.Limits.{most_lines, most_ledgers, most_deals, most_members, most_parties, most_rows}
 use Rattle.plain_script.specs.Bound.{is_ledger, is_deal, is_party, is_thing, is_bound, parties_of, is_ledger_line, is_deal_line, is_opening_line, is_good_row, are_different}
 use Rattle.plain_script.specs.RuleNames.{rule_number}
 use Rattle.plain_script.specs.declared.declaration.Declaration.{Declaration}
@@ -19,7 +20,7 @@ use Rattle.plain_script.specs.declared.place.Place.TheVariants.{Head, Declaratio
 -- ---- the rule that a declaration breaks, the least of them
 
 abbrev pub ledger_rule : List Declaration → List ℕ → Option ScriptRule
-ledger_rule ds name = broken_if (is_bound ds name) NameTwice (broken_if (nat_le 8 (count_by is_ledger_line ds)) TooMany None)
+ledger_rule ds name = broken_if (is_bound ds name) NameTwice (broken_if (nat_le most_ledgers (count_by is_ledger_line ds)) TooMany None)
 
 -- `parties` is the number of parties with those of the line
 abbrev pub open_rule : List Declaration → List ℕ → List ℕ → List ℕ → ℕ → ℕ → Option ScriptRule
@@ -27,7 +28,7 @@ open_rule ds ledger asset party amount parties =
     broken_if (is_thing ds party) NameTwice
     (broken_if (not (is_ledger ds ledger)) UnknownName
     (broken_if (not (is_good_row ds ledger asset party amount)) BadOpening
-    (broken_if (nat_le 1024 (count_by is_opening_line ds) || nat_lt 256 parties) TooMany None)))
+    (broken_if (nat_le most_rows (count_by is_opening_line ds) || nat_lt most_parties parties) TooMany None)))
 
 -- A deal has two parties at least, each once. Its line binds its own name before its parties' names are looked at.
 abbrev pub names_thing : List Declaration → List ℕ → List ℕ → Bool
@@ -37,7 +38,7 @@ abbrev pub deal_rule : List Declaration → List ℕ → List (List ℕ) → ℕ
 deal_rule ds name members parties =
     broken_if (not (nat_le 2 (length members) && are_different members)) BadLine
     (broken_if (is_bound ds name || list_any (λ party. names_thing ds name party) members) NameTwice
-    (broken_if (nat_lt 16 (length members) || (nat_le 64 (count_by is_deal_line ds) || nat_lt 256 parties)) TooMany None))
+    (broken_if (nat_lt most_members (length members) || (nat_le most_deals (count_by is_deal_line ds) || nat_lt most_parties parties)) TooMany None))
 
 abbrev pub rule_with_parties : List Declaration → Declaration → ℕ → Option ScriptRule
 rule_with_parties ds (Ledger name) parties = ledger_rule ds name
@@ -123,4 +124,4 @@ lesser_rule (Some rule) (Some other) = if nat_le (rule_number rule) (rule_number
 -- the rule that a line breaks which isn't passed over: beyond the 20,000th line it breaks the limit of lines too
 abbrev pub said_rule : ℕ → Place → List Declaration → Option Statement → Option ScriptRule
 said_rule before place ds None = Some BadLine
-said_rule before place ds (Some s) = lesser_rule (statement_rule place ds s) (broken_if (nat_le 20000 before) TooMany None)
+said_rule before place ds (Some s) = lesser_rule (statement_rule place ds s) (broken_if (nat_le most_lines before) TooMany None)

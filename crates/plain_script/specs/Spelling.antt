@@ -7,7 +7,7 @@ use Rattle.line_text.specs.Bytes.{lacks}
 use Rattle.line_text.specs.Lines.{lines_of, spelled_lines, is_passed_over}
 use Rattle.line_text.specs.Words.{spelled_words}
 use Rattle.line_text.specs.Numbers.{number_of}
-use Rattle.plain_script.specs.Reading.{ScriptTold, numbered, most_bytes}
+use Rattle.plain_script.specs.Reading.{ScriptTold, events_at, most_bytes}
 use Rattle.plain_script.specs.Positions.{KeepRules}
 use Rattle.plain_script.specs.declared.declaration.Declaration.{Declaration}
 use Rattle.plain_script.specs.declared.declaration.Declaration.TheVariants.{Ledger, Open, Deal}
@@ -114,7 +114,7 @@ IsInOrder (s ∷ ss) declarations events = s ∷ ss ≡ Plain ∷ (map Declare d
 -- the events of lines that stand behind so many lines, each with the number of its own
 abbrev pub events_told : ℕ → List ScriptLine → List Numbered
 events_told before [] = []
-events_told before (line ∷ lines) = flat_map (numbered (before + 1)) (says line) ++ events_told (before + 1) lines
+events_told before (line ∷ lines) = flat_map (events_at (before + 1)) (says line) ++ events_told (before + 1) lines
 
 abbrev pub happening : Numbered → Event
 happening event = event.event

@@ -40,6 +40,21 @@ use std::alloc::Global;
 use std::collections::BTreeSet;
 use std::marker::Model;
 
+/// The most ledgers.
+const MOST_LEDGERS: usize = 8;
+
+/// The most deals.
+const MOST_DEALS: usize = 64;
+
+/// The most parties of a deal.
+const MOST_MEMBERS: usize = 16;
+
+/// The most parties in all.
+const MOST_PARTIES: usize = 256;
+
+/// The most opening rows, of a ledger and of a script.
+const MOST_ROWS: usize = 1024;
+
 /// The greatest total of an asset's opening rows on one ledger, 2^63 - 1.
 const GREATEST_TOTAL: u64 = 9223372036854775807;
 
@@ -208,7 +223,7 @@ impl House {
     fn is_good_row(&self, ledger: &Name, asset: &Name, party: &Name, amount: u64) -> bool
         ensures { result ≡ is_good_row self.now ledger.now asset.now party.now amount }
     {
-        if self.row_count(ledger) >= 1024 {
+        if self.row_count(ledger) >= MOST_ROWS {
             return false;
         }
         if amount == 0 {
@@ -235,7 +250,7 @@ impl House {
         if self.is_bound(name) {
             return Some(ScriptRule::NameTwice);
         }
-        if self.ledger_count() >= 8 {
+        if self.ledger_count() >= MOST_LEDGERS {
             return Some(ScriptRule::TooMany);
         }
         None
@@ -261,7 +276,7 @@ impl House {
         if !self.is_good_row(ledger, asset, party, amount) {
             return Some(ScriptRule::BadOpening);
         }
-        if self.opening_count() >= 1024 || parties > 256 {
+        if self.opening_count() >= MOST_ROWS || parties > MOST_PARTIES {
             return Some(ScriptRule::TooMany);
         }
         None
@@ -292,7 +307,7 @@ impl House {
         if self.is_bound(name) || self.has_thing_among(name, members) {
             return Ok(Some(ScriptRule::NameTwice));
         }
-        if members.len() > 16 || self.deal_count() >= 64 || parties > 256 {
+        if members.len() > MOST_MEMBERS || self.deal_count() >= MOST_DEALS || parties > MOST_PARTIES {
             return Ok(Some(ScriptRule::TooMany));
         }
         Ok(None)

@@ -1,12 +1,12 @@
 //! Laws of plain scripts: their grammar, and which line is refused.
 
-ghost use Rattle.std.specs.Prelude.{◌≡◌, ◌+◌, ◌<◌, ◌↔◌, ℕ, List, [], length, Ok, Some, None};
+ghost use Rattle.std.specs.Prelude.{◌≡◌, ◌+◌, ◌-◌, ◌^◌, ◌<◌, ◌↔◌, ℕ, List, [], length, Ok, Some, None};
 ghost use Rattle.line_text.specs.Lines.{Line};
 ghost use Rattle.plain_script.specs.Reading.{Refused, ScriptTold, first_refused, reading_of};
 ghost use Rattle.plain_script.specs.Positions.{IsFirstBroken, KeepRules};
 ghost use Rattle.plain_script.specs.Rules.{KeepRules as DeclareByRules};
 ghost use Rattle.plain_script.specs.Spelling.{Spells, ScriptLine, SpellScript, IsReadAs};
-ghost use Rattle.plain_script.specs.Statements.{statement_of};
+ghost use Rattle.plain_script.specs.Said.{statement_of};
 ghost use Rattle.plain_script.specs.declared.rule.ScriptRule.{ScriptRule};
 ghost use Rattle.plain_script.specs.declared.statement.Statement.{Statement};
 
@@ -51,5 +51,5 @@ pub fn one_reading()
 /// The declarations that are read keep the rules, each behind those before it, and 32 bits count the events.
 pub fn read_by_rules()
     ensures declared { (script : List ℕ) (told : ScriptTold) → reading_of script ≡ Ok told → DeclareByRules [] told.declarations }
-    ensures few { (script : List ℕ) (told : ScriptTold) → reading_of script ≡ Ok told → length told.events < 4294967295 }
+    ensures few { (script : List ℕ) (told : ScriptTold) → reading_of script ≡ Ok told → length told.events < 2 ^ 32 - 1 }
 {}

@@ -3,7 +3,7 @@
 //! before any of it happens. The grammar, the rules and which line is refused are stated here, once.
 //!
 //! - `declaration`, `event`, `statement`, `numbered`: what a line says.
-//! - `keyword`, `keywords`, `statements`: reading it from the line's words.
+//! - `keyword`, `first_word`, `saying`: reading it from the line's words.
 //! - `house`: what the lines so far have declared, and the rules of a declaration.
 //! - `place`, `reader`: the lines so far, and the rule that the next one breaks.
 //! - `script`: a whole script.
@@ -16,7 +16,7 @@ pub mod event;
 pub mod halt;
 pub mod house;
 pub mod keyword;
-mod keywords;
+mod first_word;
 pub mod laws;
 pub mod numbered;
 pub mod place;
@@ -25,7 +25,7 @@ pub mod refused_line;
 pub mod rule;
 pub mod script;
 pub mod statement;
-mod statements;
+mod saying;
 
 pub use declaration::Declaration;
 pub use event::Event;

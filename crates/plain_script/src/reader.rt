@@ -3,6 +3,7 @@
 ghost use Rattle.std.specs.Prelude.{◌≡◌, ◌<◌, ◌≤◌, ◌+◌, ◌-◌, ◌^◌, nat_le, [], Ok, Some, None, IfOk, IfNone, OnOk};
 ghost use Rattle.line_text.specs.Faults.{broken_if};
 ghost use Rattle.line_text.specs.Seen.{line_of};
+ghost use Rattle.plain_script.specs.Limits.{most_lines};
 ghost use Rattle.plain_script.specs.Rules.{statement_rule, event_rule, said_rule, lesser_rule};
 ghost use Rattle.plain_script.specs.declared.rule.ScriptRule.TheVariants.{TooMany};
 ghost use Rattle.plain_script.specs.Fronts.{front_of, rule_behind, stated, stated_all, happened, front_after};
@@ -14,7 +15,7 @@ use crate::numbered::Numbered;
 use crate::place::Place;
 use crate::rule::ScriptRule;
 use crate::statement::Statement;
-use crate::statements::statement;
+use crate::saying::statement;
 use dh_base::NoMemory;
 use line_text::TextLine;
 use line_text::text_line::is_passed_over;
@@ -35,7 +36,7 @@ pub struct Reader {
 
 /// The limit of lines, where so many lines stand before one that says something.
 fn limit_rule(before: u32) -> Option<ScriptRule>
-    ensures { result ≡ broken_if (nat_le 20000 before) TooMany None }
+    ensures { result ≡ broken_if (nat_le most_lines before) TooMany None }
 {
     if before >= MOST_LINES {
         Some(ScriptRule::TooMany)

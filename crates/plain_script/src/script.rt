@@ -1,6 +1,6 @@
 //! A plain script that was read.
 
-ghost use Rattle.std.specs.Prelude.{◌≡◌, ◌<◌, ◌≤◌, length, IfOk};
+ghost use Rattle.std.specs.Prelude.{◌≡◌, ◌<◌, ◌≤◌, ◌-◌, ◌^◌, length, IfOk};
 ghost use Rattle.plain_script.specs.Reading.{reading_of};
 ghost use Rattle.plain_script.specs.Answers.{Answers, whole_of};
 
@@ -26,7 +26,7 @@ pub struct Script {
 
 /// The script of the lines that were read, or the want of a line `begin`.
 fn whole(reader: Reader) -> Result<Script, PlainHalt>
-    requires small { reader.number < 4294967295 }
+    requires small { reader.number < 2 ^ 32 - 1 }
     requires few { length reader.events ≤ reader.number }
     ensures value { Answers result (whole_of reader) }
     ensures few { IfOk result (λ script. length script.events < 4294967295) }

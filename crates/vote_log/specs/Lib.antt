@@ -1,10 +1,10 @@
 pub mod Entry
 pub mod Voting
-pub mod Deciding
 pub mod Places
+pub mod Deciding
 pub mod Owed
-pub mod LogFaults
 pub mod Admission
 pub mod Log
+pub mod LogFaults
 pub mod Tallies
 pub mod Tallied

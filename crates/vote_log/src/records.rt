@@ -10,7 +10,7 @@ use crate::decision::Decision;
 use crate::log_fault::LogFault;
 use crate::log_record::LogRecord;
 use crate::tallies::Tallies;
-use crate::tally::{counted, owed_after, tally_of};
+use crate::tally::{owed_after, tally_after, tally_of};
 use dh_base::Id;
 use std::alloc::Global;
 use std::marker::Model;
@@ -94,7 +94,7 @@ impl Records {
         if let Some(fault) = refusal(&before, place, self.owed, self.limit, rec) {
             return Err(fault);
         }
-        let after = counted(before, &rec.deal, rec, place);
+        let after = tally_after(before, &rec.deal, rec, place);
         let owed = owed_after(self.owed, &before, &after);
         self.records.push(*rec)?;
         match self.tallies.put(&rec.deal, after) {

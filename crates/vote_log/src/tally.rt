@@ -9,18 +9,21 @@ use crate::kind::Kind;
 use crate::log_record::LogRecord;
 use dh_base::{Id, Outcome};
 
+/// The most parties of a deal.
+const MOST_PARTIES: usize = 16;
+
 /// A started deal: where its first start stands and how many parties it names, where each index
 /// committed first, and what is decided.
 #[derive(Clone, Copy, Debug)]
 pub struct Tally {
     pub at: u32,
     pub parties: u16,
-    pub committed: [Option<u32>; 16],
+    pub committed: [Option<u32>; MOST_PARTIES],
     pub decision: Option<Decision>,
 }
 
 /// Whether each index below the number of parties has a place.
-fn all_have_places(committed: &[Option<u32>; 16], parties: u16) -> bool
+fn all_have_places(committed: &[Option<u32>; MOST_PARTIES], parties: u16) -> bool
     requires { parties ≤ 16 }
     ensures { result ≡ all_placed committed.now parties }
 {
@@ -33,7 +36,7 @@ fn all_have_places(committed: &[Option<u32>; 16], parties: u16) -> bool
 }
 
 /// How many indices below the number of parties have no place.
-fn without_place(committed: &[Option<u32>; 16], parties: u16) -> u32
+fn without_place(committed: &[Option<u32>; MOST_PARTIES], parties: u16) -> u32
     requires { parties ≤ 16 }
     ensures value { result ≡ unplaced committed.now parties }
     ensures few { result ≤ parties }
@@ -48,7 +51,7 @@ fn without_place(committed: &[Option<u32>; 16], parties: u16) -> u32
 }
 
 /// The places with that of one more commit. The first place of an index stays.
-fn with_place(mut committed: [Option<u32>; 16], index: u16, place: u32) -> [Option<u32>; 16]
+fn with_place(mut committed: [Option<u32>; MOST_PARTIES], index: u16, place: u32) -> [Option<u32>; MOST_PARTIES]
     requires { index < 16 }
     ensures { result ≡ placed_with committed index place }
 {
@@ -81,7 +84,7 @@ impl Tally {
         Tally {
             at,
             parties,
-            committed: [None; 16],
+            committed: [None; MOST_PARTIES],
             decision: None,
         }
     }
@@ -132,7 +135,7 @@ fn after_record(tally: Option<Tally>, kind: Kind, num: u16, place: u32) -> Optio
 }
 
 /// The tally of a deal after one more record of the log.
-pub fn counted(tally: Option<Tally>, deal: &Id, rec: &LogRecord, place: u32) -> Option<Tally>
+pub fn tally_after(tally: Option<Tally>, deal: &Id, rec: &LogRecord, place: u32) -> Option<Tally>
     requires { IsSmall tally }
     ensures value { result ≡ tally_after deal.now tally rec.now place }
     ensures ranged { IsInRange rec.now.kind rec.now.num }
@@ -151,7 +154,7 @@ pub fn tally_of(recs: &[LogRecord], deal: &Id) -> Option<Tally>
 {
     let mut tally = None;
     for (place, rec) in recs.iter().enumerate() {
-        tally = counted(tally, deal, rec, place as u32);
+        tally = tally_after(tally, deal, rec, place as u32);
     }
     tally
 }

@@ -3,7 +3,7 @@
 ghost use Rattle.std.specs.Prelude.{◌≡◌, IfOk};
 ghost use Rattle.line_text.specs.Reading.{ended as none_left};
 ghost use Rattle.plain_script.specs.declared.event.Event.TheVariants.{Start as StartOf, Commit as CommitOf, Abort as AbortOf};
-ghost use Rattle.plain_script.specs.Statements.{
+ghost use Rattle.plain_script.specs.Said.{
   names_only,
   ledger_after,
   open_after,
@@ -20,13 +20,13 @@ ghost use Rattle.plain_script.specs.Statements.{
 use crate::declaration::Declaration;
 use crate::event::Event;
 use crate::keyword::Keyword;
-use crate::keywords::keyword;
+use crate::first_word::keyword;
 use crate::statement::Statement;
 use dh_base::{List, Name, NoMemory};
 use line_text::Words;
 use std::alloc::Global;
 
-#[tactic(auto, unfolding(crate::specs::Statements::ledger_after))]
+#[tactic(auto, unfolding(crate::specs::Said::ledger_after))]
 fn ledger(mut words: Words<'_>) -> Option<Declaration>
     ensures { result ≡ ledger_after words.entry }
 {
@@ -37,7 +37,7 @@ fn ledger(mut words: Words<'_>) -> Option<Declaration>
     Some(Declaration::Ledger { name })
 }
 
-#[tactic(auto, unfolding(crate::specs::Statements::open_after))]
+#[tactic(auto, unfolding(crate::specs::Said::open_after))]
 fn open(mut words: Words<'_>) -> Option<Declaration>
     ensures { result ≡ open_after words.entry }
 {
@@ -56,7 +56,7 @@ fn open(mut words: Words<'_>) -> Option<Declaration>
     })
 }
 
-#[tactic(auto, unfolding(crate::specs::Statements::register_after))]
+#[tactic(auto, unfolding(crate::specs::Said::register_after))]
 fn register(mut words: Words<'_>) -> Option<Event>
     ensures { result ≡ register_after words.entry }
 {
@@ -73,7 +73,7 @@ fn register(mut words: Words<'_>) -> Option<Event>
     })
 }
 
-#[tactic(auto, unfolding(crate::specs::Statements::escrow_after))]
+#[tactic(auto, unfolding(crate::specs::Said::escrow_after))]
 fn escrow(mut words: Words<'_>) -> Option<Event>
     ensures { result ≡ escrow_after words.entry }
 {
@@ -94,7 +94,7 @@ fn escrow(mut words: Words<'_>) -> Option<Event>
     })
 }
 
-#[tactic(auto, unfolding(crate::specs::Statements::transfer_after))]
+#[tactic(auto, unfolding(crate::specs::Said::transfer_after))]
 fn transfer(mut words: Words<'_>) -> Option<Event>
     ensures { result ≡ transfer_after words.entry }
 {
@@ -119,7 +119,7 @@ fn transfer(mut words: Words<'_>) -> Option<Event>
     })
 }
 
-#[tactic(auto, unfolding(crate::specs::Statements::log_after))]
+#[tactic(auto, unfolding(crate::specs::Said::log_after))]
 fn start(mut words: Words<'_>) -> Option<Event>
     ensures { result ≡ log_after StartOf words.entry }
 {
@@ -131,7 +131,7 @@ fn start(mut words: Words<'_>) -> Option<Event>
     Some(Event::Start { deal, party })
 }
 
-#[tactic(auto, unfolding(crate::specs::Statements::log_after))]
+#[tactic(auto, unfolding(crate::specs::Said::log_after))]
 fn commit(mut words: Words<'_>) -> Option<Event>
     ensures { result ≡ log_after CommitOf words.entry }
 {
@@ -143,7 +143,7 @@ fn commit(mut words: Words<'_>) -> Option<Event>
     Some(Event::Commit { deal, party })
 }
 
-#[tactic(auto, unfolding(crate::specs::Statements::log_after))]
+#[tactic(auto, unfolding(crate::specs::Said::log_after))]
 fn abort(mut words: Words<'_>) -> Option<Event>
     ensures { result ≡ log_after AbortOf words.entry }
 {
@@ -155,7 +155,7 @@ fn abort(mut words: Words<'_>) -> Option<Event>
     Some(Event::Abort { deal, party })
 }
 
-#[tactic(auto, unfolding(crate::specs::Statements::claim_after))]
+#[tactic(auto, unfolding(crate::specs::Said::claim_after))]
 fn claim(mut words: Words<'_>) -> Option<Event>
     ensures { result ≡ claim_after words.entry }
 {
@@ -182,7 +182,7 @@ fn names(alloc: Global, mut words: Words<'_>) -> Result<Option<List<Name>>, NoMe
     Ok(Some(List::from_vec(names)))
 }
 
-#[tactic(auto, unfolding(crate::specs::Statements::deal_after))]
+#[tactic(auto, unfolding(crate::specs::Said::deal_after))]
 fn deal(alloc: Global, mut words: Words<'_>) -> Result<Option<Declaration>, NoMemory>
     ensures { IfOk result (λ deal. deal ≡ deal_after words.entry) }
 {

@@ -1,7 +1,7 @@
 //! Reading the word with which a line begins.
 
 ghost use Rattle.std.specs.Prelude.{◌≡◌};
-ghost use Rattle.plain_script.specs.Statements.{opening_keyword, event_keyword, keyword_of};
+ghost use Rattle.plain_script.specs.Said.{opening_keyword, event_keyword, keyword_of};
 
 use crate::keyword::Keyword;
 
@@ -57,7 +57,7 @@ fn event_keyword(word: &[u8]) -> Option<Keyword>
 }
 
 /// The keyword that the word is.
-#[tactic(auto, unfolding(crate::specs::Statements::keyword_of))]
+#[tactic(auto, unfolding(crate::specs::Said::keyword_of))]
 pub fn keyword(word: &[u8]) -> Option<Keyword>
     ensures { result ≡ keyword_of word.now }
 {
