@@ -25,7 +25,8 @@ incoming steps party ledger asset = amount_where (is_in party ledger asset) step
 
 -- by how much, after the first n steps, more has gone out than come in; 0 where it is no more
 abbrev pub excess : List Step → ℕ → List ℕ → List ℕ → ℕ → ℕ
-excess steps party ledger asset n = outgoing (take n steps) party ledger asset - incoming (take n steps) party ledger asset
+excess steps party ledger asset n =
+    outgoing (take n steps) party ledger asset - incoming (take n steps) party ledger asset
 
 -- the greatest of the values at 0 to n
 abbrev pub greatest_to : (ℕ → ℕ) → ℕ → ℕ
@@ -38,7 +39,9 @@ need_of steps party ledger asset = greatest_to (excess steps party ledger asset)
 
 -- what the deal owes the party: its need and all that comes in, less all that goes out
 abbrev pub due_of : List Step → ℕ → List ℕ → List ℕ → ℕ
-due_of steps party ledger asset = need_of steps party ledger asset + incoming steps party ledger asset - outgoing steps party ledger asset
+due_of steps party ledger asset =
+    need_of steps party ledger asset + incoming steps party ledger asset
+    - outgoing steps party ledger asset
 
 -- ---- turns
 

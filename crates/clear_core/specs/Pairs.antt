@@ -14,7 +14,8 @@ pair_of step = record { ledger = step.ledger; asset = step.asset }
 
 -- by the ledger, and then by the asset
 abbrev pub pair_cmp : Pair → Pair → Ordering
-pair_cmp a b = ordering_then (slice_cmp nat_cmp a.ledger b.ledger) (slice_cmp nat_cmp a.asset b.asset)
+pair_cmp a b =
+    ordering_then (slice_cmp nat_cmp a.ledger b.ledger) (slice_cmp nat_cmp a.asset b.asset)
 
 -- the pair stands before the other, if there is one
 abbrev pub is_earlier : Pair → Option Pair → Bool

@@ -19,25 +19,30 @@ escrow_of steps party pair =
 abbrev pub escrows_of : List Step → ℕ → List Pair → List PlanAct
 escrows_of steps party pairs = flat_map (escrow_of steps party) pairs
 
--- The transfer of a step, where it is the party's own. Its turn counts the party's steps on that ledger before it.
+-- The transfer of a step, where it is the party's own. Its turn counts the party's steps on that
+-- ledger before it.
 abbrev pub transfer_of : ℕ → List Step → Step → List PlanAct
 transfer_of party before step =
     if party == step.from
-    then Transfer step.ledger (turns_of before party step.ledger) step.to step.asset step.amount ∷ []
+    then
+    Transfer step.ledger (turns_of before party step.ledger) step.to step.asset step.amount ∷ []
     else []
 
 -- the transfers of the steps that stand behind those before
 abbrev pub transfers_behind : ℕ → List Step → List Step → List PlanAct
 transfers_behind party before [] = []
-transfers_behind party before (step ∷ steps) = transfer_of party before step ++ transfers_behind party (before ++ step ∷ []) steps
+transfers_behind party before (step ∷ steps) =
+    transfer_of party before step ++ transfers_behind party (before ++ step ∷ []) steps
 
 abbrev pub plan_of : List Step → ℕ → List PlanAct
-plan_of steps party = Register ∷ (escrows_of steps party (pairs_of steps) ++ transfers_behind party [] steps)
+plan_of steps party =
+    Register ∷ (escrows_of steps party (pairs_of steps) ++ transfers_behind party [] steps)
 
 -- what the act escrows of the asset on the ledger
 abbrev pub escrowed : List ℕ → List ℕ → PlanAct → ℕ
 escrowed ledger asset Register = 0
-escrowed ledger asset (Escrow on of amount) = if bytes_eq ledger on && bytes_eq asset of then amount else 0
+escrowed ledger asset (Escrow on of amount) =
+    if bytes_eq ledger on && bytes_eq asset of then amount else 0
 escrowed ledger asset (Transfer on turn to of amount) = 0
 
 -- what a plan escrows of it in all

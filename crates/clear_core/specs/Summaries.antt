@@ -17,17 +17,22 @@ texts_below text (suc n) = texts_below text n ++ text n
 -- a line of an amount of the pair, where it is above 0
 abbrev pub amount_line : List ℕ → Pair → ℕ → List ℕ
 amount_line head pair amount =
-    if nat_lt 0 amount then head ++ (32 ∷ pair.ledger) ++ (32 ∷ pair.asset) ++ (32 ∷ decimal amount) ++ 10 ∷ [] else []
+    if nat_lt 0 amount
+    then head ++ (32 ∷ pair.ledger) ++ (32 ∷ pair.asset) ++ (32 ∷ decimal amount) ++ 10 ∷ []
+    else []
 
 abbrev pub entry_line : DealTold → ℕ → ℕ → Pair → List ℕ
 entry_line deal from to pair =
-    amount_line (codes "matrix " ++ party_name deal.parties from ++ 32 ∷ party_name deal.parties to) pair (matrix_of deal.steps from to pair.ledger pair.asset)
+    amount_line (codes "matrix " ++ party_name deal.parties from ++ 32 ∷ party_name deal.parties to)
+    pair (matrix_of deal.steps from to pair.ledger pair.asset)
 
 -- what the pair needs of the party, and what the deal owes it
 abbrev pub party_lines : DealTold → ℕ → Pair → List ℕ
 party_lines deal party pair =
-    amount_line (codes "need " ++ party_name deal.parties party) pair (need_of deal.steps party pair.ledger pair.asset)
-    ++ amount_line (codes "due " ++ party_name deal.parties party) pair (due_of deal.steps party pair.ledger pair.asset)
+    amount_line (codes "need " ++ party_name deal.parties party) pair
+    (need_of deal.steps party pair.ledger pair.asset)
+    ++ amount_line (codes "due " ++ party_name deal.parties party) pair
+    (due_of deal.steps party pair.ledger pair.asset)
 
 abbrev pub entries_text : DealTold → List Pair → ℕ → ℕ → List ℕ
 entries_text deal pairs from to = flat_map (entry_line deal from to) pairs
@@ -49,4 +54,6 @@ head_text deal = codes "deal " ++ deal.name ++ (10 ∷ codes "id ") ++ hex_text 
 
 -- the name, the id, the matrix, and for each party its needs and dues
 abbrev pub clearing_of : DealTold → List ℕ
-clearing_of deal = head_text deal ++ matrix_text deal (pairs_of deal.steps) ++ parties_text deal (pairs_of deal.steps)
+clearing_of deal =
+    head_text deal ++ matrix_text deal (pairs_of deal.steps)
+    ++ parties_text deal (pairs_of deal.steps)

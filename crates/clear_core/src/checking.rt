@@ -32,7 +32,8 @@ fn is_earlier(pair: &Pair, found: &Option<Pair>) -> bool
     }
 }
 
-/// The pair of the step, where the deal asks too much of it and it stands before the one found so far, or that one.
+/// The pair of the step, where the deal asks too much of it and it stands before the one found so
+/// far, or that one.
 fn earlier_over(
     deal: &Deal,
     party: u16,
@@ -85,7 +86,8 @@ fn first_under<'a>(deal: &Deal, party: u16, gets: &'a [Limit]) -> Option<&'a Lim
     None
 }
 
-/// Checks that the deal keeps the party's terms, and answers the first limit that it breaks: first those of what is given.
+/// Checks that the deal keeps the party's terms, and answers the first limit that it breaks: first
+/// those of what is given.
 pub fn check_terms(deal: &Deal, party: u16, terms: &Terms) -> Result<(), TermFault>
     requires { party < length deal.now.parties }
     ensures { ChecksTerms deal.now.steps party terms.now result }

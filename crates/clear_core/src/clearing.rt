@@ -25,12 +25,14 @@ fn greatest_excess(steps: &[Step], party: u16, ledger: &Name, asset: &Name) -> u
     need
 }
 
-/// The party's least escrow of the asset on the ledger: what it must begin with so that no step takes it below zero.
+/// The party's least escrow of the asset on the ledger: what it must begin with so that no step
+/// takes it below zero.
 pub fn need(deal: &Deal, party: u16, ledger: &Name, asset: &Name) -> u64
     requires { party < length deal.now.parties }
     ensures value { result ≡ need_of deal.now.steps party ledger.now asset.now }
     ensures funds { IsNeverBelowZero result deal.now.steps party ledger.now asset.now }
-    ensures least { (begins : ℕ) → IsNeverBelowZero begins deal.now.steps party ledger.now asset.now → result ≤ begins }
+    ensures least { (begins : ℕ) → IsNeverBelowZero begins deal.now.steps party ledger.now asset.now
+        → result ≤ begins }
     ensures small { result < 2 ^ 63 }
 {
     greatest_excess(deal.steps(), party, ledger, asset)
@@ -52,13 +54,14 @@ fn flows(steps: &[Step], party: u16, ledger: &Name, asset: &Name) -> (u64, u64)
     (came, went)
 }
 
-/// What the deal owes the party of the asset on the ledger, if it commits: the escrow and all that comes in, less all
-/// that goes out.
+/// What the deal owes the party of the asset on the ledger, if it commits: the escrow and all that
+/// comes in, less all that goes out.
 pub fn due(deal: &Deal, party: u16, ledger: &Name, asset: &Name) -> u64
     requires { party < length deal.now.parties }
     ensures value { result ≡ due_of deal.now.steps party ledger.now asset.now }
     ensures not_cut { result + outgoing deal.now.steps party ledger.now asset.now
-        ≡ need_of deal.now.steps party ledger.now asset.now + incoming deal.now.steps party ledger.now asset.now }
+        ≡ need_of deal.now.steps party ledger.now asset.now
+        + incoming deal.now.steps party ledger.now asset.now }
     ensures small { result < 2 ^ 63 }
 {
     let (came, went) = flows(deal.steps(), party, ledger, asset);

@@ -12,15 +12,18 @@ ghost use Rattle.deal_core.specs.declared.step.Step.{Step};
 ghost use Rattle.clear_core.specs.declared.pair.Pair.{Pair};
 ghost use Rattle.clear_core.specs.declared.plan_act.PlanAct.TheVariants.{Escrow};
 
-/// Where each party begins with its need of each asset, no step takes any amount below zero; and holdings with that
-/// property are nowhere less than the needs.
+/// Where each party begins with its need of each asset, no step takes any amount below zero; and
+/// holdings with that property are nowhere less than the needs.
 pub fn least_escrow()
     ensures funds { (deal : DealTold) → IsDeal deal → Funds (need_of deal.steps) deal.steps }
-    ensures least { (deal : DealTold) → IsDeal deal → (begins : Holdings) → Funds begins deal.steps →
-        (party : ℕ) (ledger asset : List ℕ) → need_of deal.steps party ledger asset ≤ begins party ledger asset }
+    ensures least { (deal : DealTold) → IsDeal deal → (begins : Holdings)
+        → Funds begins deal.steps →
+        (party : ℕ) (ledger asset : List ℕ)
+        → need_of deal.steps party ledger asset ≤ begins party ledger asset }
 {}
 
-/// What a deal owes its parties together is what it needs of them together, of each asset on each ledger.
+/// What a deal owes its parties together is what it needs of them together, of each asset on each
+/// ledger.
 pub fn dues_are_needs()
     ensures { (deal : DealTold) → IsDeal deal → (ledger asset : List ℕ) →
         of_all (λ party. due_of deal.steps party ledger asset) (length deal.parties)
@@ -29,7 +32,8 @@ pub fn dues_are_needs()
 
 /// The pairs of a deal are those that its steps move, once each, in ascending order.
 pub fn moved_pairs()
-    ensures moved { (steps : List Step) (pair : Pair) → Contains (pairs_of steps) pair ↔ IsMoved steps pair }
+    ensures moved { (steps : List Step) (pair : Pair)
+        → Contains (pairs_of steps) pair ↔ IsMoved steps pair }
     ensures ascend { (steps : List Step) → Ascend (pairs_of steps) }
 {}
 

@@ -1,4 +1,5 @@
-//! What a deal takes from each party and what it gives: the least escrow, what the deal owes, and the turns of transfers.
+//! What a deal takes from each party and what it gives: the least escrow, what the deal owes, and
+//! the turns of transfers.
 //!
 //! - `clearing`: need, due and turns.
 //! - `flow`: what a step moves for a party.
@@ -6,7 +7,8 @@
 //! - `planning`, `plan_act`: what a party does in a deal.
 //! - `checking`, `terms`, `limit`, `term_fault`: whether a deal keeps a party's terms.
 //! - `summary`: what a deal's clearing tells, as text.
-//! - `laws`: the needs are the least holdings that fund the steps, and together what is due; plans escrow exactly the needs.
+//! - `laws`: the needs are the least holdings that fund the steps, and together what is due; plans
+//!   escrow exactly the needs.
 #![tactic(auto)]
 
 pub mod checking;

@@ -18,7 +18,8 @@ fn push_escrow(
     acts: &mut Vec<PlanAct>,
 ) -> Result<(), NoMemory>
     requires { party < length deal.now.parties }
-    ensures { OnOk result (acts.new.items ≡ acts.old.items ++ escrow_of deal.now.steps party pair.now) }
+    ensures { OnOk result (acts.new.items
+        ≡ acts.old.items ++ escrow_of deal.now.steps party pair.now) }
 {
     let amount = need(deal, party, &pair.ledger, &pair.asset);
     if amount > 0 {
@@ -39,7 +40,8 @@ fn push_escrows(
     acts: &mut Vec<PlanAct>,
 ) -> Result<(), NoMemory>
     requires { party < length deal.now.parties }
-    ensures { OnOk result (acts.new.items ≡ acts.old.items ++ escrows_of deal.now.steps party pairs.now) }
+    ensures { OnOk result (acts.new.items
+        ≡ acts.old.items ++ escrows_of deal.now.steps party pairs.now) }
 {
     for pair in pairs {
         push_escrow(deal, party, pair, acts)?;
@@ -55,7 +57,8 @@ fn push_transfer(
     acts: &mut Vec<PlanAct>,
 ) -> Result<(), NoMemory>
     requires { length before.now ≤ 64 }
-    ensures { OnOk result (acts.new.items ≡ acts.old.items ++ transfer_of party before.now step.now) }
+    ensures { OnOk result (acts.new.items
+        ≡ acts.old.items ++ transfer_of party before.now step.now) }
 {
     if party == step.from {
         acts.push(PlanAct::Transfer {
@@ -80,7 +83,8 @@ fn push_transfers(party: u16, steps: &[Step], acts: &mut Vec<PlanAct>) -> Result
     Ok(())
 }
 
-/// What the party does in the deal, in order: it registers the deal, escrows its needs, and makes its own steps.
+/// What the party does in the deal, in order: it registers the deal, escrows its needs, and makes
+/// its own steps.
 pub fn plan(alloc: Global, deal: &Deal, party: u16) -> Result<List<PlanAct>, NoMemory>
     requires { party < length deal.now.parties }
     ensures { IfOk result (λ acts. acts ≡ plan_of deal.now.steps party) }

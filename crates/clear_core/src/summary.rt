@@ -41,7 +41,8 @@ fn write_entry(
 ) -> Result<(), NoMemory>
     requires from { from < length deal.now.parties }
     requires to { to < length deal.now.parties }
-    ensures { OnOk result (string_bytes out.new ≡ string_bytes out.old ++ entry_line deal.now from to pair.now) }
+    ensures { OnOk result (string_bytes out.new
+        ≡ string_bytes out.old ++ entry_line deal.now from to pair.now) }
 {
     let amount = matrix(deal, from, to, &pair.ledger, &pair.asset);
     let giver = name_of(deal, from);
@@ -64,7 +65,8 @@ fn write_entries(
 ) -> Result<(), NoMemory>
     requires from { from < length deal.now.parties }
     requires to { to < length deal.now.parties }
-    ensures { OnOk result (string_bytes out.new ≡ string_bytes out.old ++ entries_text deal.now pairs.now from to) }
+    ensures { OnOk result (string_bytes out.new
+        ≡ string_bytes out.old ++ entries_text deal.now pairs.now from to) }
 {
     for pair in pairs {
         write_entry(deal, from, to, pair, out)?;
@@ -75,7 +77,8 @@ fn write_entries(
 /// Writes the entries from the party to each.
 fn write_row(deal: &Deal, from: u16, pairs: &[Pair], out: &mut String) -> Result<(), NoMemory>
     requires { from < length deal.now.parties }
-    ensures { OnOk result (string_bytes out.new ≡ string_bytes out.old ++ row_text deal.now pairs.now from) }
+    ensures { OnOk result (string_bytes out.new
+        ≡ string_bytes out.old ++ row_text deal.now pairs.now from) }
 {
     for to in 0..deal.parties().len() {
         write_entries(deal, from, to as u16, pairs, out)?;
@@ -85,7 +88,8 @@ fn write_row(deal: &Deal, from: u16, pairs: &[Pair], out: &mut String) -> Result
 
 /// Writes the matrix, row by row.
 fn write_matrix(deal: &Deal, pairs: &[Pair], out: &mut String) -> Result<(), NoMemory>
-    ensures { OnOk result (string_bytes out.new ≡ string_bytes out.old ++ matrix_text deal.now pairs.now) }
+    ensures { OnOk result (string_bytes out.new
+        ≡ string_bytes out.old ++ matrix_text deal.now pairs.now) }
 {
     for from in 0..deal.parties().len() {
         write_row(deal, from as u16, pairs, out)?;
@@ -97,7 +101,8 @@ fn write_matrix(deal: &Deal, pairs: &[Pair], out: &mut String) -> Result<(), NoM
 fn write_need(deal: &Deal, party: u16, pair: &Pair, out: &mut String) -> Result<(), NoMemory>
     requires { party < length deal.now.parties }
     ensures { OnOk result (string_bytes out.new ≡ string_bytes out.old
-        ++ amount_line (codes "need " ++ party_name deal.now.parties party) pair.now (need_of deal.now.steps party pair.now.ledger pair.now.asset)) }
+        ++ amount_line (codes "need " ++ party_name deal.now.parties party) pair.now
+        (need_of deal.now.steps party pair.now.ledger pair.now.asset)) }
 {
     let amount = need(deal, party, &pair.ledger, &pair.asset);
     let name = name_of(deal, party);
@@ -113,7 +118,8 @@ fn write_need(deal: &Deal, party: u16, pair: &Pair, out: &mut String) -> Result<
 fn write_due(deal: &Deal, party: u16, pair: &Pair, out: &mut String) -> Result<(), NoMemory>
     requires { party < length deal.now.parties }
     ensures { OnOk result (string_bytes out.new ≡ string_bytes out.old
-        ++ amount_line (codes "due " ++ party_name deal.now.parties party) pair.now (due_of deal.now.steps party pair.now.ledger pair.now.asset)) }
+        ++ amount_line (codes "due " ++ party_name deal.now.parties party) pair.now
+        (due_of deal.now.steps party pair.now.ledger pair.now.asset)) }
 {
     let amount = due(deal, party, &pair.ledger, &pair.asset);
     let name = name_of(deal, party);
@@ -128,7 +134,8 @@ fn write_due(deal: &Deal, party: u16, pair: &Pair, out: &mut String) -> Result<(
 /// Writes what the party needs and is owed, pair by pair.
 fn write_party(deal: &Deal, party: u16, pairs: &[Pair], out: &mut String) -> Result<(), NoMemory>
     requires { party < length deal.now.parties }
-    ensures { OnOk result (string_bytes out.new ≡ string_bytes out.old ++ party_text deal.now pairs.now party) }
+    ensures { OnOk result (string_bytes out.new
+        ≡ string_bytes out.old ++ party_text deal.now pairs.now party) }
 {
     for pair in pairs {
         write_need(deal, party, pair, out)?;
@@ -139,7 +146,8 @@ fn write_party(deal: &Deal, party: u16, pairs: &[Pair], out: &mut String) -> Res
 
 /// Writes what each party needs and is owed.
 fn write_parties(deal: &Deal, pairs: &[Pair], out: &mut String) -> Result<(), NoMemory>
-    ensures { OnOk result (string_bytes out.new ≡ string_bytes out.old ++ parties_text deal.now pairs.now) }
+    ensures { OnOk result (string_bytes out.new
+        ≡ string_bytes out.old ++ parties_text deal.now pairs.now) }
 {
     for party in 0..deal.parties().len() {
         write_party(deal, party as u16, pairs, out)?;

@@ -1,4 +1,5 @@
--- The text of a deal: a line for its name, one for its house, one for each party and one for each step.
+-- The text of a deal: a line for its name, one for its house, one for each party and one for each
+-- step.
 use Rattle.std.specs.Prelude.{ℕ, IsTrue, List, [], ◌∷◌, ◌++◌, map, codes, Option, Some, None}
 use Rattle.std.specs.List.{slice_get, AllByRecursion}
 use Rattle.std.specs.Fmt.{decimal}
@@ -24,7 +25,8 @@ party_words party = codes "party" ∷ party.name ∷ hex_text party.account.0 �
 
 abbrev pub step_words : List Party → Step → List (List ℕ)
 step_words parties step =
-    codes "step" ∷ party_name parties step.from ∷ party_name parties step.to ∷ step.ledger ∷ step.asset ∷ decimal step.amount ∷ []
+    codes "step" ∷ party_name parties step.from ∷ party_name parties step.to ∷ step.ledger
+    ∷ step.asset ∷ decimal step.amount ∷ []
 
 -- the words of each line
 abbrev pub deal_words : DealTold → List (List (List ℕ))
@@ -44,5 +46,7 @@ deal_text deal = lines_text (deal_words deal)
 pub record IsSpellable (deal : DealTold) : Type 0 where
   pub name : IsTrue (is_name deal.name)
   pub house : IsId deal.house
-  pub parties : AllByRecursion (λ party. IsTrue (is_name party.name) × IsId party.account) deal.parties
-  pub steps : AllByRecursion (λ step. IsTrue (is_name step.ledger) × IsTrue (is_name step.asset)) deal.steps
+  pub parties :
+      AllByRecursion (λ party. IsTrue (is_name party.name) × IsId party.account) deal.parties
+  pub steps :
+      AllByRecursion (λ step. IsTrue (is_name step.ledger) × IsTrue (is_name step.asset)) deal.steps

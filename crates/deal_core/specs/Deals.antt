@@ -1,4 +1,5 @@
--- Deals: parties, and steps in an order, each of which passes an amount of an asset on a ledger from one party to another.
+-- Deals: parties, and steps in an order, each of which passes an amount of an asset on a ledger
+-- from one party to another.
 use Rattle.std.specs.Prelude.{ℕ, ◌≡◌, ◌+◌, ◌<◌, Bool, ◌&&◌, ◌==◌, if◌then◌else◌, List, [], ◌∷◌, Option, Some, None}
 use Rattle.std.specs.List.{sum_by, Contains, AllByRecursion}
 use Rattle.std.specs.Str.{bytes_eq}
@@ -20,7 +21,8 @@ abbrev pub is_of : List ℕ → List ℕ → Step → Bool
 is_of ledger asset step = bytes_eq ledger step.ledger && bytes_eq asset step.asset
 
 abbrev pub is_between : ℕ → ℕ → List ℕ → List ℕ → Step → Bool
-is_between from to ledger asset step = from == step.from && (to == step.to && is_of ledger asset step)
+is_between from to ledger asset step =
+    from == step.from && (to == step.to && is_of ledger asset step)
 
 -- the amount of a step that passes the test, and else nothing
 abbrev pub amount_if : (Step → Bool) → Step → ℕ
@@ -47,7 +49,8 @@ Leads (step ∷ walk) from to = (step.from ≡ from) × Leads walk step.to to
 
 -- A walk along steps of the deal leads from one party to the other.
 abbrev pub Reaches : List Step → ℕ → ℕ → Type 0
-Reaches steps from to = (walk : List Step) × AllByRecursion (Contains steps) walk × Leads walk from to
+Reaches steps from to =
+    (walk : List Step) × AllByRecursion (Contains steps) walk × Leads walk from to
 
 -- Of so many parties each reaches each other one.
 abbrev pub IsConnected : List Step → ℕ → Type 0
@@ -60,7 +63,8 @@ IsJoined steps party = Reaches steps 0 party × Reaches steps party 0
 -- Of so many parties this is the first that isn't reached from party 0 or doesn't reach it.
 abbrev pub IsFirstApart : List Step → ℕ → ℕ → Type 0
 IsFirstApart steps parties party =
-    (party < parties) × (IsJoined steps party → ⊥) × ((other : ℕ) → other < party → IsJoined steps other)
+    (party < parties) × (IsJoined steps party → ⊥)
+    × ((other : ℕ) → other < party → IsJoined steps other)
 
 -- ---- the indices of parties
 
@@ -70,7 +74,8 @@ same_id a b = bytes_eq a.0 b.0
 -- the index of the first party that passes the test, where the first party has the index `index`
 abbrev pub party_where : (Party → Bool) → ℕ → List Party → Option ℕ
 party_where test index [] = None
-party_where test index (party ∷ parties) = if test party then Some index else party_where test (index + 1) parties
+party_where test index (party ∷ parties) =
+    if test party then Some index else party_where test (index + 1) parties
 
 abbrev pub is_named : List ℕ → Party → Bool
 is_named name party = bytes_eq name party.name

@@ -32,7 +32,9 @@ one_if b = if b then 1 else 0
 
 -- how many lines that is
 abbrev pub lines_in : Draft → ℕ
-lines_in draft = one_if (is_some draft.name) + (one_if (is_some draft.house) + (length draft.parties + length draft.steps))
+lines_in draft =
+    one_if (is_some draft.name)
+    + (one_if (is_some draft.house) + (length draft.parties + length draft.steps))
 
 abbrev pub is_empty : {X : Type 0} → List X → Bool
 is_empty [] = true
@@ -43,7 +45,9 @@ is_empty (x ∷ xs) = false
 -- The number of the line is n.
 abbrev pub party_fault : ℕ → List Party → Party → Option DealFault
 party_fault n parties party =
-    broken_if (list_any (is_named party.name) parties || list_any (has_account party.account) parties) (PartyTwice n)
+    broken_if
+    (list_any (is_named party.name) parties || list_any (has_account party.account) parties)
+    (PartyTwice n)
     (broken_if (nat_le 16 (length parties)) (TooMany n) None)
 
 -- the step is on a ledger of its own, behind steps on eight others
@@ -59,7 +63,8 @@ step_fault n parties steps step =
     (broken_if (bytes_eq step.from step.to) (SelfStep n)
     (broken_if (step.amount == 0) (ZeroAmount n)
     (broken_if (nat_le 64 (length steps) || is_ninth steps step.ledger) (TooMany n)
-    (broken_if (nat_lt (2 ^ 63 - 1) (total_of steps step.ledger step.asset + step.amount)) (SumTooLarge n) None))))
+    (broken_if (nat_lt (2 ^ 63 - 1) (total_of steps step.ledger step.asset + step.amount))
+    (SumTooLarge n) None))))
 
 -- a line of this kind may stand behind the draft
 abbrev pub may_stand : Draft → DealLine → Bool
@@ -77,7 +82,8 @@ rule_fault n draft (line.Step step) = step_fault n draft.parties draft.steps ste
 abbrev pub said_fault : Draft → Option DealLine → Option DealFault
 said_fault draft None = Some (BadLine (lines_in draft + 1))
 said_fault draft (Some said) =
-    broken_if (not (may_stand draft said)) (BadLine (lines_in draft + 1)) (rule_fault (lines_in draft + 1) draft said)
+    broken_if (not (may_stand draft said)) (BadLine (lines_in draft + 1))
+    (rule_fault (lines_in draft + 1) draft said)
 
 -- ---- one line more
 
@@ -97,7 +103,8 @@ abbrev pub with_line : Draft → DealLine → Draft
 with_line draft (line.Deal name) = record draft { name = Some name }
 with_line draft (line.House house) = record draft { house = Some house }
 with_line draft (line.Party party) = record draft { parties = draft.parties ++ party ∷ [] }
-with_line draft (line.Step step) = record draft { steps = draft.steps ++ with_indices draft.parties step ∷ [] }
+with_line draft (line.Step step) =
+    record draft { steps = draft.steps ++ with_indices draft.parties step ∷ [] }
 
 abbrev pub with_said : Draft → Option DealLine → Draft
 with_said draft None = draft
@@ -126,7 +133,8 @@ unless (Some fault) rest = Err fault
 -- the first fault of the lines behind the draft, or what all come to
 abbrev pub reading_behind : Draft → List Line → Result Draft DealFault
 reading_behind draft [] = whole draft
-reading_behind draft (line ∷ lines) = unless (line_fault draft line) (reading_behind (after_line draft line) lines)
+reading_behind draft (line ∷ lines) =
+    unless (line_fault draft line) (reading_behind (after_line draft line) lines)
 
 -- what reading a text gives, aside from whether the deal is connected
 abbrev pub reading_of : List ℕ → Result Draft DealFault

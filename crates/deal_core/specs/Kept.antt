@@ -12,7 +12,8 @@ use Rattle.deal_core.specs.declared.step.Step.{Step}
 abbrev pub AreNewBehind : List Party → List Party → Type 0
 AreNewBehind before [] = Unit {0}
 AreNewBehind before (party ∷ parties) =
-    (list_any (is_named party.name) before ≡ false) × (list_any (has_account party.account) before ≡ false)
+    (list_any (is_named party.name) before ≡ false)
+    × (list_any (has_account party.account) before ≡ false)
     × AreNewBehind (before ++ party ∷ []) parties
 
 -- one of the steps is on this ledger
@@ -22,7 +23,8 @@ is_on steps ledger = list_any (λ step. bytes_eq ledger step.ledger) steps
 -- how many of the steps are on a ledger that no step before them is on
 abbrev pub new_ledgers : List Step → List Step → ℕ
 new_ledgers before [] = 0
-new_ledgers before (step ∷ steps) = (if is_on before step.ledger then 0 else 1) + new_ledgers (before ++ step ∷ []) steps
+new_ledgers before (step ∷ steps) =
+    (if is_on before step.ledger then 0 else 1) + new_ledgers (before ++ step ∷ []) steps
 
 -- how many ledgers the steps name
 abbrev pub ledger_count : List Step → ℕ

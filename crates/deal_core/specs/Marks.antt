@@ -25,12 +25,17 @@ is_marked marks party = slice_index_or marks party false
 -- a party without a mark to which a step leads from one with a mark
 abbrev pub IsNext : Way → List Step → List Bool → ℕ → Type 0
 IsNext way steps marks party =
-    (step : Step) × Contains steps step × (is_marked marks (near way step) ≡ true) × (is_marked marks party ≡ false) × (far way step ≡ party) × (party < 16)
+    (step : Step) × Contains steps step × (is_marked marks (near way step) ≡ true)
+    × (is_marked marks party ≡ false) × (far way step ≡ party) × (party < 16)
 
 -- no step leads from a party with a mark to one without
 abbrev pub IsClosed : Way → List Step → List Bool → Type 0
-IsClosed way steps marks = (step : Step) → Contains steps step → is_marked marks (near way step) ≡ true → is_marked marks (far way step) ≡ true
+IsClosed way steps marks =
+    (step : Step) → Contains steps step → is_marked marks (near way step) ≡ true
+    → is_marked marks (far way step) ≡ true
 
 -- exactly the parties on the way are marked
 abbrev pub AreMarks : Way → List Step → List Bool → Type 0
-AreMarks way steps marks = (party : ℕ) → (is_marked marks party ≡ true → IsOnWay way steps party) × (IsOnWay way steps party → is_marked marks party ≡ true)
+AreMarks way steps marks =
+    (party : ℕ) → (is_marked marks party ≡ true → IsOnWay way steps party)
+    × (IsOnWay way steps party → is_marked marks party ≡ true)

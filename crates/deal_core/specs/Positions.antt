@@ -9,22 +9,29 @@ use Rattle.deal_core.specs.declared.deal_fault.DealFault.TheVariants.{BadLine, P
 abbrev pub after_lines : Draft → List Line → Draft
 after_lines draft lines = fold after_line draft lines
 
--- the fault of the line at a position from 0, behind the lines before it; none where no line stands there
+-- the fault of the line at a position from 0, behind the lines before it; none where no line stands
+-- there
 abbrev pub fault_at : Draft → List Line → ℕ → Option DealFault
-fault_at draft lines k = option_and_then (line_fault (after_lines draft (take k lines))) (slice_get lines k)
+fault_at draft lines k =
+    option_and_then (line_fault (after_lines draft (take k lines))) (slice_get lines k)
 
 -- the line at the position has the fault, and no line before it has one
 abbrev pub IsFirstFault : Draft → List Line → ℕ → DealFault → Type 0
-IsFirstFault draft lines k fault = (fault_at draft lines k ≡ Some fault) × ((j : ℕ) → j < k → fault_at draft lines j ≡ None)
+IsFirstFault draft lines k fault =
+    (fault_at draft lines k ≡ Some fault) × ((j : ℕ) → j < k → fault_at draft lines j ≡ None)
 
--- no line has a fault, but they lack something that a deal has: the fault is that of the line behind the last
+-- no line has a fault, but they lack something that a deal has: the fault is that of the line
+-- behind the last
 abbrev pub LacksLine : List Line → DealFault → Type 0
 LacksLine lines fault =
-    ((k : ℕ) → fault_at no_lines lines k ≡ None) × (is_whole (after_lines no_lines lines) ≡ false) × (fault ≡ BadLine (length lines + 1))
+    ((k : ℕ) → fault_at no_lines lines k ≡ None) × (is_whole (after_lines no_lines lines) ≡ false)
+    × (fault ≡ BadLine (length lines + 1))
 
--- the fault of a text's lines: that of the first line that has one, or that of the line which is lacking
+-- the fault of a text's lines: that of the first line that has one, or that of the line which is
+-- lacking
 abbrev pub IsFaultOfLines : List ℕ → DealFault → Type 0
-IsFaultOfLines text fault = ((k : ℕ) × IsFirstFault no_lines (lines_of text) k fault) ⊎ LacksLine (lines_of text) fault
+IsFaultOfLines text fault =
+    ((k : ℕ) × IsFirstFault no_lines (lines_of text) k fault) ⊎ LacksLine (lines_of text) fault
 
 -- the number of the line that a fault tells
 abbrev pub line_told : DealFault → Option ℕ

@@ -10,7 +10,13 @@ use Rattle.deal_core.specs.declared.deal_fault.DealFault.TheVariants.{BadLine, P
 
 -- what the lines of the deal's text come to
 abbrev pub draft_of : DealTold → Draft
-draft_of deal = record { name = Some deal.name; house = Some deal.house; parties = deal.parties; steps = deal.steps }
+draft_of deal =
+    record {
+      name = Some deal.name;
+      house = Some deal.house;
+      parties = deal.parties;
+      steps = deal.steps;
+    }
 
 -- The draft has what a deal has, and the text is what spells it.
 pub record IsWholeText (draft : Draft) (text : List ℕ) : Type 0 where
@@ -20,9 +26,17 @@ pub record IsWholeText (draft : Draft) (text : List ℕ) : Type 0 where
   pub housed : draft.house ≡ Some house
   pub parties : 2 ≤ length draft.parties
   pub steps : 1 ≤ length draft.steps
-  pub spelled : (id : Id) → text ≡ deal_text (record { id = id; house = house; name = name; parties = draft.parties; steps = draft.steps })
+  pub spelled : (id : Id)
+      → text ≡ deal_text (record {
+        id = id;
+        house = house;
+        name = name;
+        parties = draft.parties;
+        steps = draft.steps;
+      })
 
--- The lines are good, and this is the first party that isn't reached from party 0 or doesn't reach it.
+-- The lines are good, and this is the first party that isn't reached from party 0 or doesn't reach
+-- it.
 pub record IsApart (text : List ℕ) (party : ℕ) : Type 0 where
   pub draft : Draft
   pub read : reading_of text ≡ Ok draft

@@ -30,7 +30,13 @@ step_after words = do
   ledger ← name_word to.1
   asset ← name_word ledger.1
   amount ← amount_word asset.1
-  ended amount.1 (Step (record { from = from.0; to = to.0; ledger = ledger.0; asset = asset.0; amount = amount.0 }))
+  ended amount.1 (Step (record {
+    from = from.0;
+    to = to.0;
+    ledger = ledger.0;
+    asset = asset.0;
+    amount = amount.0;
+  }))
 
 -- what stands behind the first word
 abbrev pub said_after : List ℕ → List (List ℕ) → Option DealLine

@@ -26,9 +26,21 @@ impl Model for Deal {
 
     ghost Value = { DealTold };
 
-    ghost view = { λ d. record { id = d.id; house = d.house; name = d.name; parties = d.parties; steps = d.steps } };
+    ghost view = { λ d. record {
+      id = d.id;
+      house = d.house;
+      name = d.name;
+      parties = d.parties;
+      steps = d.steps;
+    } };
 
-    ghost invariant = { λ d. IsDeal (record { id = d.id; house = d.house; name = d.name; parties = d.parties; steps = d.steps }) };
+    ghost invariant = { λ d. IsDeal (record {
+      id = d.id;
+      house = d.house;
+      name = d.name;
+      parties = d.parties;
+      steps = d.steps;
+    }) };
 }
 
 impl Deal {

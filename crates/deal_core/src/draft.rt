@@ -59,7 +59,12 @@ impl Model for Draft {
 
     ghost Value = { Told };
 
-    ghost view = { λ d. record { name = d.name; house = d.house; parties = d.parties.items; steps = d.steps.items } };
+    ghost view = { λ d. record {
+      name = d.name;
+      house = d.house;
+      parties = d.parties.items;
+      steps = d.steps.items;
+    } };
 
     ghost invariant = { λ d. IsDraft d.parties.items d.steps.items };
 }
@@ -201,7 +206,8 @@ impl Draft {
     /// Takes the next line, or answers its fault.
     pub(crate) fn take_line(&mut self, line: &TextLine<'_>) -> Result<Option<DealFault>, NoMemory>
         ensures fault { IfOk result (λ fault. fault ≡ line_fault self.old (line_of line.now)) }
-        ensures taken { IfOk result (λ fault. IfNone fault (self.new ≡ after_line self.old (line_of line.now))) }
+        ensures taken { IfOk result (λ fault.
+            IfNone fault (self.new ≡ after_line self.old (line_of line.now))) }
     {
         let Some(said) = said_by(line) else {
             return Ok(Some(DealFault::BadLine {

@@ -1,5 +1,6 @@
-//! Deals and their texts. A deal has parties and steps in an order, each of which passes an amount of an asset on a ledger
-//! from one party to another. Its text is lines, and its id is the digest of the text.
+//! Deals and their texts. A deal has parties and steps in an order, each of which passes an amount
+//! of an asset on a ledger from one party to another. Its text is lines, and its id is the digest
+//! of the text.
 //!
 //! - `deal`, `party`, `step`: a deal, its matrix, and the index of a party.
 //! - `reading`, `writing`: from a text to its deal, and back.

@@ -2,7 +2,8 @@
 
 use dh_base::Name;
 
-/// A step of a deal: `from` passes the amount of the asset on the ledger to `to`. Both are indices of parties.
+/// A step of a deal: `from` passes the amount of the asset on the ledger to `to`. Both are indices
+/// of parties.
 #[derive(Clone, Copy)]
 pub struct Step {
     pub from: u16,

@@ -22,7 +22,8 @@ fn name_of(parties: &[Party], index: u16) -> Name
 
 /// Writes the line of a party.
 fn write_party(party: &Party, out: &mut String) -> Result<(), NoMemory>
-    ensures { OnOk result (string_bytes out.new ≡ string_bytes out.old ++ lines_text (party_words party.now ∷ [])) }
+    ensures { OnOk result (string_bytes out.new
+        ≡ string_bytes out.old ++ lines_text (party_words party.now ∷ [])) }
 {
     let name = party.name;
     let account = party.account;
@@ -33,7 +34,8 @@ fn write_party(party: &Party, out: &mut String) -> Result<(), NoMemory>
 /// Writes the line of a step.
 fn write_step(parties: &[Party], step: &Step, out: &mut String) -> Result<(), NoMemory>
     requires { IsStepOf (length parties.now) step.now }
-    ensures { OnOk result (string_bytes out.new ≡ string_bytes out.old ++ lines_text (step_words parties.now step.now ∷ [])) }
+    ensures { OnOk result (string_bytes out.new
+        ≡ string_bytes out.old ++ lines_text (step_words parties.now step.now ∷ [])) }
 {
     let from = name_of(parties, step.from);
     let to = name_of(parties, step.to);
@@ -46,7 +48,8 @@ fn write_step(parties: &[Party], step: &Step, out: &mut String) -> Result<(), No
 
 /// Writes the lines of the parties.
 fn write_parties(parties: &[Party], out: &mut String) -> Result<(), NoMemory>
-    ensures { OnOk result (string_bytes out.new ≡ string_bytes out.old ++ lines_text (map party_words parties.now)) }
+    ensures { OnOk result (string_bytes out.new
+        ≡ string_bytes out.old ++ lines_text (map party_words parties.now)) }
 {
     for party in parties {
         write_party(party, out)?;
@@ -57,7 +60,8 @@ fn write_parties(parties: &[Party], out: &mut String) -> Result<(), NoMemory>
 /// Writes the lines of the steps.
 fn write_steps(parties: &[Party], steps: &[Step], out: &mut String) -> Result<(), NoMemory>
     requires { AllByRecursion (IsStepOf (length parties.now)) steps.now }
-    ensures { OnOk result (string_bytes out.new ≡ string_bytes out.old ++ lines_text (map (step_words parties.now) steps.now)) }
+    ensures { OnOk result (string_bytes out.new
+        ≡ string_bytes out.old ++ lines_text (map (step_words parties.now) steps.now)) }
 {
     for step in steps {
         write_step(parties, step, out)?;

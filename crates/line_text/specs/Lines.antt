@@ -12,7 +12,8 @@ pub record Line : Type 0 where
 abbrev pub ended_line : List ℕ → Line
 ended_line text = record { text = text; ended = true }
 
--- the lines of a text that begins with this byte, which ends no line, where these are the lines of the rest
+-- the lines of a text that begins with this byte, which ends no line, where these are the lines of
+-- the rest
 abbrev pub onto_first_line : ℕ → List Line → List Line
 onto_first_line c [] = record { text = c ∷ []; ended = false } ∷ []
 onto_first_line c (line ∷ lines) = record { text = c ∷ line.text; ended = line.ended } ∷ lines
@@ -34,12 +35,14 @@ joined_lines lines = flat_map line_bytes lines
 abbrev pub spelled_lines : List (List ℕ) → List ℕ
 spelled_lines lines = flat_map (λ line. line ++ 10 ∷ []) lines
 
--- What the lines of a text are: no line feed stands in them, each but the last is ended, and the last is ended or
--- isn't empty.
+-- What the lines of a text are: no line feed stands in them, each but the last is ended, and the
+-- last is ended or isn't empty.
 abbrev pub AreLines : List Line → Type 0
 AreLines [] = Unit {0}
-AreLines (line ∷ []) = IsTrue (lacks 10 line.text) × IsTrue (line.ended || nat_lt 0 (length line.text))
-AreLines (line ∷ next ∷ lines) = IsTrue (lacks 10 line.text) × IsTrue line.ended × AreLines (next ∷ lines)
+AreLines (line ∷ []) =
+    IsTrue (lacks 10 line.text) × IsTrue (line.ended || nat_lt 0 (length line.text))
+AreLines (line ∷ next ∷ lines) =
+    IsTrue (lacks 10 line.text) × IsTrue line.ended × AreLines (next ∷ lines)
 
 -- a line that scripts pass over: it is empty or begins with `#`
 abbrev pub is_passed_over : List ℕ → Bool

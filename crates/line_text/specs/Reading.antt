@@ -56,8 +56,9 @@ abbrev pub is_done : List (List ℕ) → Bool
 is_done [] = true
 is_done (word ∷ words) = false
 
--- What a reader answers: the value that reading gives, and it leaves the words behind it; or nothing, and then all
--- words are left.
-abbrev pub Reads : {X Y : Type 0} → (X → Y) → Option X → List (List ℕ) → List (List ℕ) → Option (Y × List (List ℕ)) → Type 0
+-- What a reader answers: the value that reading gives, and it leaves the words behind it; or
+-- nothing, and then all words are left.
+abbrev pub Reads : {X Y : Type 0} → (X → Y) → Option X → List (List ℕ) → List (List ℕ)
+    → Option (Y × List (List ℕ)) → Type 0
 Reads view (Some x) old new read = read ≡ Some (view x, new)
 Reads view None old new read = (read ≡ None) × (new ≡ old)

@@ -1,4 +1,5 @@
--- Words: the pieces of a line between single spaces. A line has one at least, and a word may be empty.
+-- Words: the pieces of a line between single spaces. A line has one at least, and a word may be
+-- empty.
 use Rattle.std.specs.Prelude.{ℕ, ◌==◌, List}
 use Rattle.std.specs.List.{slice_split, join_with_byte}
 

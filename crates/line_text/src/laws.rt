@@ -22,16 +22,19 @@ pub fn one_list_of_lines()
     ensures only { (lines : List Line) → AreLines lines → lines_of (joined_lines lines) ≡ lines }
 {}
 
-/// The words of a line of words are those words, where no space stands in them. There is one at least.
+/// The words of a line of words are those words, where no space stands in them. There is one at
+/// least.
 pub fn words_of_spelled_words()
-    ensures { (words : List (List ℕ)) → words ≢ [] → AllByRecursion (λ word. IsTrue (lacks 32 word)) words →
+    ensures { (words : List (List ℕ)) → words ≢ []
+        → AllByRecursion (λ word. IsTrue (lacks 32 word)) words →
         words_of (spelled_words words) ≡ words }
 {}
 
 /// The words of a line, spelled, are the line. There is one at least, and no space stands in them.
 pub fn spelled_words_of()
     ensures some { (line : List ℕ) → words_of line ≢ [] }
-    ensures words { (line : List ℕ) → AllByRecursion (λ word. IsTrue (lacks 32 word)) (words_of line) }
+    ensures words { (line : List ℕ)
+        → AllByRecursion (λ word. IsTrue (lacks 32 word)) (words_of line) }
     ensures spelled { (line : List ℕ) → spelled_words (words_of line) ≡ line }
 {}
 
@@ -47,8 +50,10 @@ pub fn decimal_of_number()
 
 /// In names and in decimals stands neither a space nor a line feed.
 pub fn plain_words()
-    ensures name { (word : List ℕ) → IsTrue (is_name word) → IsTrue (lacks 32 word) × IsTrue (lacks 10 word) }
-    ensures decimal { (n : ℕ) → n < 2 ^ 64 → IsTrue (lacks 32 (decimal n)) × IsTrue (lacks 10 (decimal n)) }
+    ensures name { (word : List ℕ) → IsTrue (is_name word)
+        → IsTrue (lacks 32 word) × IsTrue (lacks 10 word) }
+    ensures decimal { (n : ℕ) → n < 2 ^ 64
+        → IsTrue (lacks 32 (decimal n)) × IsTrue (lacks 10 (decimal n)) }
 {}
 
 /// In a line of words in which no line feed stands there stands none.

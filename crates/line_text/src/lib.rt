@@ -1,6 +1,7 @@
-//! Texts of lines. A text is lines, each ended by a line feed, which the last may lack; a line is words with one space
-//! between each two; a word is a name, a number in decimal, an id in hexadecimal digits, or what the format makes of it. Every text format of bytes
-//! outside a message is such lines, so their grammar, its readers and its laws are stated here, once.
+//! Texts of lines. A text is lines, each ended by a line feed, which the last may lack; a line is
+//! words with one space between each two; a word is a name, a number in decimal, an id in
+//! hexadecimal digits, or what the format makes of it. Every text format of bytes outside a message
+//! is such lines, so their grammar, its readers and its laws are stated here, once.
 //!
 //! - `text_line`: a line, and whether a line feed ends it.
 //! - `lines`: a text line by line.

@@ -10,7 +10,8 @@ use std::marker::Model;
 
 /// The lines of a text that are left. A contract sees their list.
 ///
-/// It is no `Iterator`: the one equation of `next_line` says all that a loop needs, the list left as its measure too.
+/// It is no `Iterator`: the one equation of `next_line` says all that a loop needs, the list left
+/// as its measure too.
 #[derive(Debug, Drop)]
 pub struct Lines<'a> {
     rest: &'a [u8],
@@ -47,7 +48,8 @@ impl<'a> Lines<'a> {
 
 /// The first line and what stands behind it, where the text isn't empty.
 fn first_line(text: &[u8]) -> Option<(TextLine<'_>, &[u8])>
-    ensures line { IfSome result (λ found. lines_of text.now ≡ line_of found.0 ∷ lines_of found.1.now) }
+    ensures line { IfSome result (λ found. lines_of text.now
+        ≡ line_of found.0 ∷ lines_of found.1.now) }
     ensures none { IfNone result (text.now ≡ []) }
 {
     if text.is_empty() {

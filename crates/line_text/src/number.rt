@@ -15,7 +15,8 @@ pub enum Number {
 }
 
 impl Number {
-    /// The number that the word is: digits without sign, and with no zero in front, save the number 0 itself.
+    /// The number that the word is: digits without sign, and with no zero in front, save the number
+    /// 0 itself.
     pub fn from_bytes(word: &[u8]) -> Option<Number>
         ensures { result ≡ option_map in_64_bits (number_of word.now) }
     {

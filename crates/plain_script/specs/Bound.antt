@@ -54,7 +54,8 @@ abbrev pub members_of : List Declaration → List ℕ → List (List ℕ)
 members_of [] deal = []
 members_of (Ledger name ∷ ds) deal = members_of ds deal
 members_of (Open ledger asset party amount ∷ ds) deal = members_of ds deal
-members_of (Deal name parties ∷ ds) deal = if bytes_eq deal name then parties else members_of ds deal
+members_of (Deal name parties ∷ ds) deal =
+    if bytes_eq deal name then parties else members_of ds deal
 
 -- the name of a ledger or of a deal
 abbrev pub is_thing : List Declaration → List ℕ → Bool
@@ -95,7 +96,8 @@ opens_asset on of (Deal deal parties) = false
 -- an opening row of the ledger, for this asset and party
 abbrev pub opens_row : List ℕ → List ℕ → List ℕ → Declaration → Bool
 opens_row on of by (Ledger ledger) = false
-opens_row on of by (Open ledger asset party amount) = bytes_eq on ledger && (bytes_eq of asset && bytes_eq by party)
+opens_row on of by (Open ledger asset party amount) =
+    bytes_eq on ledger && (bytes_eq of asset && bytes_eq by party)
 opens_row on of by (Deal deal parties) = false
 
 abbrev pub amount_opened : Declaration → ℕ
@@ -111,9 +113,10 @@ opened_by ledger asset d = if opens_asset ledger asset d then amount_opened d el
 abbrev pub opened_of : List Declaration → List ℕ → List ℕ → ℕ
 opened_of ds ledger asset = sum_by (opened_by ledger asset) ds
 
--- A row is good where it is one of the ledger's first 1,024, its amount is above 0, its asset and party are new there,
--- and the asset's total so far is at most 2 ^ 63 - 1.
+-- A row is good where it is one of the ledger's first 1,024, its amount is above 0, its asset and
+-- party are new there, and the asset's total so far is at most 2 ^ 63 - 1.
 abbrev pub is_good_row : List Declaration → List ℕ → List ℕ → List ℕ → ℕ → Bool
 is_good_row ds ledger asset party amount =
     nat_lt (count_by (opens_on ledger) ds) most_rows && (nat_lt 0 amount
-    && (not (list_any (opens_row ledger asset party) ds) && nat_le (opened_of ds ledger asset + amount) (2 ^ 63 - 1)))
+    && (not (list_any (opens_row ledger asset party) ds)
+    && nat_le (opened_of ds ledger asset + amount) (2 ^ 63 - 1)))

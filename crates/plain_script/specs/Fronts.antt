@@ -26,7 +26,9 @@ front_of lines = record {
 }
 
 abbrev pub rule_behind : Front → Line → Option ScriptRule
-rule_behind front line = if passes_over line then None else said_rule front.number front.place front.declarations (said_by line)
+rule_behind front line =
+    if passes_over line then None
+    else said_rule front.number front.place front.declarations (said_by line)
 
 -- where the line behind a statement stands
 abbrev pub next_place : Place → Statement → Place
@@ -45,14 +47,21 @@ stated front s = record {
 
 -- with an event of the next line
 abbrev pub happened : Front → Event → Front
-happened front event = record front { events = front.events ++ record { line = front.number + 1; event = event } ∷ [] }
+happened front event =
+    record front { events = front.events ++ record { line = front.number + 1; event = event } ∷ [] }
 
 abbrev pub stated_all : Front → List Statement → Front
 stated_all front [] = front
 stated_all front (s ∷ ss) = stated_all (stated front s) ss
 
 abbrev pub past_line : Front → Front
-counted front = record { number = front.number + 1; place = front.place; declarations = front.declarations; events = front.events }
+past_line front =
+    record {
+      number = front.number + 1;
+      place = front.place;
+      declarations = front.declarations;
+      events = front.events;
+    }
 
 abbrev pub front_after : Front → Line → Front
 front_after front line = past_line (stated_all front (statements_by line))

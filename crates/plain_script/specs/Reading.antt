@@ -1,4 +1,5 @@
--- Reading a script: the first line that breaks a rule, or what the script declares and what happens in it.
+-- Reading a script: the first line that breaks a rule, or what the script declares and what happens
+-- in it.
 use Rattle.std.specs.Prelude.{ℕ, ◌+◌, Bool, true, false, ◌&&◌, ◌||◌, if◌then◌else◌, nat_lt, List, [], ◌∷◌, ◌++◌, length, Option, Some, None, Result, Ok, Err}
 use Rattle.std.specs.List.{list_any, flat_map}
 use Rattle.line_text.specs.Lines.{Line, lines_of, is_passed_over}
@@ -11,7 +12,8 @@ use Rattle.plain_script.specs.declared.statement.Statement.TheVariants.{Plain, H
 use Rattle.plain_script.specs.declared.rule.ScriptRule.{ScriptRule}
 use Rattle.plain_script.specs.declared.rule.ScriptRule.TheVariants.{BadLine, TooLarge}
 
--- The line that a script is refused for, and the rule that it breaks. Lines count from 1; line 0 is the script as a whole.
+-- The line that a script is refused for, and the rule that it breaks. Lines count from 1; line 0 is
+-- the script as a whole.
 pub record Refused : Type 0 where
   pub line : ℕ
   pub rule : ScriptRule
@@ -39,7 +41,8 @@ statements_of lines = flat_map statements_by lines
 abbrev pub line_rule : List Line → Line → Option ScriptRule
 line_rule before line =
     if passes_over line then None
-    else said_rule (length before) (place_after (statements_of before)) (declarations_of (statements_of before)) (said_by line)
+    else said_rule (length before) (place_after (statements_of before))
+    (declarations_of (statements_of before)) (said_by line)
 
 -- at this line, or what comes later
 abbrev pub at_line : ℕ → Option ScriptRule → Option Refused → Option Refused
@@ -49,7 +52,8 @@ at_line number (Some rule) later = Some (record { line = number; rule = rule })
 -- the first of the lines `rest` that breaks a rule, where they stand after the lines `before`
 abbrev pub first_refused : List Line → List Line → Option Refused
 first_refused before [] = None
-first_refused before (line ∷ rest) = at_line (length before + 1) (line_rule before line) (first_refused (before ++ line ∷ []) rest)
+first_refused before (line ∷ rest) =
+    at_line (length before + 1) (line_rule before line) (first_refused (before ++ line ∷ []) rest)
 
 -- what happens, each with the number of its line
 abbrev pub events_at : ℕ → Statement → List Numbered
@@ -61,7 +65,8 @@ events_at line (Happen e) = record { line = line; event = e } ∷ []
 
 abbrev pub events_from : ℕ → List Line → List Numbered
 events_from before [] = []
-events_from before (line ∷ rest) = flat_map (events_at (before + 1)) (statements_by line) ++ events_from (before + 1) rest
+events_from before (line ∷ rest) =
+    flat_map (events_at (before + 1)) (statements_by line) ++ events_from (before + 1) rest
 
 -- a script that was read
 pub record ScriptTold : Type 0 where
@@ -76,7 +81,10 @@ says_nothing (s ∷ ss) = false
 abbrev pub reading_whole : List Line → Result ScriptTold Refused
 reading_whole lines =
     if says_nothing (statements_of lines) || list_any is_begin (statements_of lines)
-    then Ok (record { declarations = declarations_of (statements_of lines); events = events_from 0 lines })
+    then Ok (record {
+      declarations = declarations_of (statements_of lines);
+      events = events_from 0 lines;
+    })
     else Err (record { line = length lines + 1; rule = BadLine })
 
 abbrev pub reading_lines : List Line → Option Refused → Result ScriptTold Refused

@@ -24,7 +24,8 @@ rule_name OutOfRange = codes "OutOfRange"
 rule_name TooLarge = codes "TooLarge"
 rule_name NotBuilt = codes "NotBuilt"
 
--- the rule that this build answers: what a line may not do is a bad line, whichever rule of lines it breaks
+-- the rule that this build answers: what a line may not do is a bad line, whichever rule of lines
+-- it breaks
 abbrev pub answered : ScriptRule → ScriptRule
 answered BadLine = BadLine
 answered NameTwice = BadLine
@@ -37,4 +38,6 @@ answered NotBuilt = NotBuilt
 
 -- the line's number, the rule's number and the rule's name
 abbrev pub refused_text : ℕ → ScriptRule → List ℕ
-refused_text line rule = codes "line " ++ decimal line ++ codes " rule " ++ decimal (rule_number rule) ++ (32 ∷ rule_name rule)
+refused_text line rule =
+    codes "line " ++ decimal line ++ codes " rule " ++ decimal (rule_number rule)
+    ++ (32 ∷ rule_name rule)

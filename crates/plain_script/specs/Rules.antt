@@ -20,7 +20,9 @@ use Rattle.plain_script.specs.declared.place.Place.TheVariants.{Head, Declaratio
 -- ---- the rule that a declaration breaks, the least of them
 
 abbrev pub ledger_rule : List Declaration → List ℕ → Option ScriptRule
-ledger_rule ds name = broken_if (is_bound ds name) NameTwice (broken_if (nat_le most_ledgers (count_by is_ledger_line ds)) TooMany None)
+ledger_rule ds name =
+    broken_if (is_bound ds name) NameTwice
+    (broken_if (nat_le most_ledgers (count_by is_ledger_line ds)) TooMany None)
 
 -- `parties` is the number of parties with those of the line
 abbrev pub open_rule : List Declaration → List ℕ → List ℕ → List ℕ → ℕ → ℕ → Option ScriptRule
@@ -28,9 +30,11 @@ open_rule ds ledger asset party amount parties =
     broken_if (is_thing ds party) NameTwice
     (broken_if (not (is_ledger ds ledger)) UnknownName
     (broken_if (not (is_good_row ds ledger asset party amount)) BadOpening
-    (broken_if (nat_le most_rows (count_by is_opening_line ds) || nat_lt most_parties parties) TooMany None)))
+    (broken_if (nat_le most_rows (count_by is_opening_line ds) || nat_lt most_parties parties)
+    TooMany None)))
 
--- A deal has two parties at least, each once. Its line binds its own name before its parties' names are looked at.
+-- A deal has two parties at least, each once. Its line binds its own name before its parties' names
+-- are looked at.
 abbrev pub names_thing : List Declaration → List ℕ → List ℕ → Bool
 names_thing ds deal party = bytes_eq party deal || is_thing ds party
 
@@ -38,11 +42,15 @@ abbrev pub deal_rule : List Declaration → List ℕ → List (List ℕ) → ℕ
 deal_rule ds name members parties =
     broken_if (not (nat_le 2 (length members) && are_different members)) BadLine
     (broken_if (is_bound ds name || list_any (λ party. names_thing ds name party) members) NameTwice
-    (broken_if (nat_lt most_members (length members) || (nat_le most_deals (count_by is_deal_line ds) || nat_lt most_parties parties)) TooMany None))
+    (broken_if
+    (nat_lt most_members (length members)
+    || (nat_le most_deals (count_by is_deal_line ds) || nat_lt most_parties parties))
+    TooMany None))
 
 abbrev pub rule_with_parties : List Declaration → Declaration → ℕ → Option ScriptRule
 rule_with_parties ds (Ledger name) parties = ledger_rule ds name
-rule_with_parties ds (Open ledger asset party amount) parties = open_rule ds ledger asset party amount parties
+rule_with_parties ds (Open ledger asset party amount) parties =
+    open_rule ds ledger asset party amount parties
 rule_with_parties ds (Deal name members) parties = deal_rule ds name members parties
 
 abbrev pub declaration_rule : List Declaration → Declaration → Option ScriptRule
@@ -62,9 +70,12 @@ taken_unless (Some rule) ds d = ds
 
 -- each name that an event uses is that of a ledger, a deal and parties
 abbrev pub are_known : List Declaration → Event → Bool
-are_known ds (Register ledger deal party) = is_ledger ds ledger && (is_deal ds deal && is_party ds party)
-are_known ds (Escrow ledger deal party asset amount) = is_ledger ds ledger && (is_deal ds deal && is_party ds party)
-are_known ds (Transfer ledger deal from turn to asset amount) = is_ledger ds ledger && (is_deal ds deal && (is_party ds from && is_party ds to))
+are_known ds (Register ledger deal party) =
+    is_ledger ds ledger && (is_deal ds deal && is_party ds party)
+are_known ds (Escrow ledger deal party asset amount) =
+    is_ledger ds ledger && (is_deal ds deal && is_party ds party)
+are_known ds (Transfer ledger deal from turn to asset amount) =
+    is_ledger ds ledger && (is_deal ds deal && (is_party ds from && is_party ds to))
 are_known ds (Start deal party) = is_deal ds deal && is_party ds party
 are_known ds (Commit deal party) = is_deal ds deal && is_party ds party
 are_known ds (Abort deal party) = is_deal ds deal && is_party ds party
@@ -119,9 +130,12 @@ statement_rule Events ds (Happen e) = event_rule ds e
 abbrev pub lesser_rule : Option ScriptRule → Option ScriptRule → Option ScriptRule
 lesser_rule None other = other
 lesser_rule (Some rule) None = Some rule
-lesser_rule (Some rule) (Some other) = if nat_le (rule_number rule) (rule_number other) then Some rule else Some other
+lesser_rule (Some rule) (Some other) =
+    if nat_le (rule_number rule) (rule_number other) then Some rule else Some other
 
--- the rule that a line breaks which isn't passed over: beyond the 20,000th line it breaks the limit of lines too
+-- the rule that a line breaks which isn't passed over: beyond the 20,000th line it breaks the limit
+-- of lines too
 abbrev pub said_rule : ℕ → Place → List Declaration → Option Statement → Option ScriptRule
 said_rule before place ds None = Some BadLine
-said_rule before place ds (Some s) = lesser_rule (statement_rule place ds s) (broken_if (nat_le most_lines before) TooMany None)
+said_rule before place ds (Some s) =
+    lesser_rule (statement_rule place ds s) (broken_if (nat_le most_lines before) TooMany None)

@@ -21,24 +21,31 @@ use Rattle.plain_script.specs.declared.statement.Statement.TheVariants.{Plain, H
 
 abbrev pub declaration_words : Declaration → List (List ℕ)
 declaration_words (Ledger name) = codes "ledger" ∷ name ∷ []
-declaration_words (Open ledger asset party amount) = codes "open" ∷ ledger ∷ asset ∷ party ∷ decimal amount ∷ []
+declaration_words (Open ledger asset party amount) =
+    codes "open" ∷ ledger ∷ asset ∷ party ∷ decimal amount ∷ []
 declaration_words (Deal name parties) = codes "deal" ∷ name ∷ parties
 
--- The word is this number of 32 bits in decimal. A number that exceeds its field is any of 2 ^ 32 or more.
+-- The word is this number of 32 bits in decimal. A number that exceeds its field is any of 2 ^ 32
+-- or more.
 abbrev pub SpellsNumber : Option ℕ → List ℕ → Type 0
 SpellsNumber (Some n) word = (n < 2 ^ 32) × (word ≡ decimal n)
 SpellsNumber None word = (n : ℕ) × (2 ^ 32 ≤ n) × (number_of word ≡ Some n)
 
 abbrev pub SpellsEvent : Event → List (List ℕ) → Type 0
-SpellsEvent (Register ledger deal party) words = words ≡ codes "register" ∷ ledger ∷ deal ∷ party ∷ []
-SpellsEvent (Escrow ledger deal party asset amount) words = words ≡ codes "escrow" ∷ ledger ∷ deal ∷ party ∷ asset ∷ decimal amount ∷ []
+SpellsEvent (Register ledger deal party) words =
+    words ≡ codes "register" ∷ ledger ∷ deal ∷ party ∷ []
+SpellsEvent (Escrow ledger deal party asset amount) words =
+    words ≡ codes "escrow" ∷ ledger ∷ deal ∷ party ∷ asset ∷ decimal amount ∷ []
 SpellsEvent (Transfer ledger deal from turn to asset amount) words =
-    (number : List ℕ) × SpellsNumber turn number × (words ≡ codes "transfer" ∷ ledger ∷ deal ∷ from ∷ number ∷ to ∷ asset ∷ decimal amount ∷ [])
+    (number : List ℕ) × SpellsNumber turn number
+    × (words
+    ≡ codes "transfer" ∷ ledger ∷ deal ∷ from ∷ number ∷ to ∷ asset ∷ decimal amount ∷ [])
 SpellsEvent (Start deal party) words = words ≡ codes "start" ∷ deal ∷ party ∷ []
 SpellsEvent (Commit deal party) words = words ≡ codes "commit" ∷ deal ∷ party ∷ []
 SpellsEvent (Abort deal party) words = words ≡ codes "abort" ∷ deal ∷ party ∷ []
 SpellsEvent (Claim ledger deal len) words =
-    (number : List ℕ) × SpellsNumber len number × (words ≡ codes "claim" ∷ ledger ∷ deal ∷ number ∷ [])
+    (number : List ℕ) × SpellsNumber len number
+    × (words ≡ codes "claim" ∷ ledger ∷ deal ∷ number ∷ [])
 
 abbrev pub SpellsStatement : Statement → List (List ℕ) → Type 0
 SpellsStatement Plain words = words ≡ codes "plain" ∷ []
@@ -51,14 +58,19 @@ SpellsStatement (Happen event) words = SpellsEvent event words
 
 abbrev pub IsGoodDeclaration : Declaration → Type 0
 IsGoodDeclaration (Ledger name) = IsTrue (is_name name)
-IsGoodDeclaration (Open ledger asset party amount) = IsTrue (is_name ledger) × IsTrue (is_name asset) × IsTrue (is_name party) × (amount < 2 ^ 63)
+IsGoodDeclaration (Open ledger asset party amount) =
+    IsTrue (is_name ledger) × IsTrue (is_name asset) × IsTrue (is_name party) × (amount < 2 ^ 63)
 IsGoodDeclaration (Deal name parties) = IsTrue (is_name name) × IsTrue (list_all is_name parties)
 
 abbrev pub IsGoodEvent : Event → Type 0
-IsGoodEvent (Register ledger deal party) = IsTrue (is_name ledger) × IsTrue (is_name deal) × IsTrue (is_name party)
-IsGoodEvent (Escrow ledger deal party asset amount) = IsTrue (is_name ledger) × IsTrue (is_name deal) × IsTrue (is_name party) × IsTrue (is_name asset) × (amount < 2 ^ 63)
+IsGoodEvent (Register ledger deal party) =
+    IsTrue (is_name ledger) × IsTrue (is_name deal) × IsTrue (is_name party)
+IsGoodEvent (Escrow ledger deal party asset amount) =
+    IsTrue (is_name ledger) × IsTrue (is_name deal) × IsTrue (is_name party)
+    × IsTrue (is_name asset) × (amount < 2 ^ 63)
 IsGoodEvent (Transfer ledger deal from turn to asset amount) =
-    IsTrue (is_name ledger) × IsTrue (is_name deal) × IsTrue (is_name from) × IsTrue (is_name to) × IsTrue (is_name asset) × (amount < 2 ^ 63)
+    IsTrue (is_name ledger) × IsTrue (is_name deal) × IsTrue (is_name from) × IsTrue (is_name to)
+    × IsTrue (is_name asset) × (amount < 2 ^ 63)
 IsGoodEvent (Start deal party) = IsTrue (is_name deal) × IsTrue (is_name party)
 IsGoodEvent (Commit deal party) = IsTrue (is_name deal) × IsTrue (is_name party)
 IsGoodEvent (Abort deal party) = IsTrue (is_name deal) × IsTrue (is_name party)
@@ -86,7 +98,8 @@ pub data ScriptLine : Type 0 where
   Says : (statement : Statement) → ScriptLine
 
 abbrev pub SpellsLine : ScriptLine → List ℕ → Type 0
-SpellsLine (Passed passed) text = (text ≡ passed) × IsTrue (is_passed_over text) × IsTrue (lacks 10 text)
+SpellsLine (Passed passed) text =
+    (text ≡ passed) × IsTrue (is_passed_over text) × IsTrue (lacks 10 text)
 SpellsLine (Says statement) text = Spells statement text
 
 -- each text spells its line
@@ -106,15 +119,18 @@ abbrev pub says : ScriptLine → List Statement
 says (Passed text) = []
 says (Says statement) = statement ∷ []
 
--- The statements of a script: none at all, or the head, the declarations, `begin` and the events, in this order.
+-- The statements of a script: none at all, or the head, the declarations, `begin` and the events,
+-- in this order.
 abbrev pub IsInOrder : List Statement → List Declaration → List Event → Type 0
 IsInOrder [] declarations events = (declarations ≡ []) × (events ≡ [])
-IsInOrder (s ∷ ss) declarations events = s ∷ ss ≡ Plain ∷ (map Declare declarations ++ Begin ∷ map Happen events)
+IsInOrder (s ∷ ss) declarations events =
+    s ∷ ss ≡ Plain ∷ (map Declare declarations ++ Begin ∷ map Happen events)
 
 -- the events of lines that stand behind so many lines, each with the number of its own
 abbrev pub events_told : ℕ → List ScriptLine → List Numbered
 events_told before [] = []
-events_told before (line ∷ lines) = flat_map (events_at (before + 1)) (says line) ++ events_told (before + 1) lines
+events_told before (line ∷ lines) =
+    flat_map (events_at (before + 1)) (says line) ++ events_told (before + 1) lines
 
 abbrev pub happening : Numbered → Event
 happening event = event.event
@@ -124,8 +140,8 @@ pub record IsScriptOf (lines : List ScriptLine) (told : ScriptTold) : Type 0 whe
   pub order : IsInOrder (flat_map says lines) told.declarations (map happening told.events)
   pub events : told.events ≡ events_told 0 lines
 
--- What reading gives: the script is spelled by these lines, which declare and tell this in order; no line of it breaks a
--- rule, and it isn't too large.
+-- What reading gives: the script is spelled by these lines, which declare and tell this in order;
+-- no line of it breaks a rule, and it isn't too large.
 pub record IsReadAs (script : List ℕ) (lines : List ScriptLine) (told : ScriptTold) : Type 0 where
   pub spelled : SpellScript lines script
   pub tells : IsScriptOf lines told

@@ -2,7 +2,8 @@
 
 use dh_base::Name;
 
-/// A line that happens: it stands behind `begin`. A number of 32 bits is none where it exceeds them.
+/// A line that happens: it stands behind `begin`. A number of 32 bits is none where it exceeds
+/// them.
 #[derive(Clone, Copy)]
 pub enum Event {
     /// The party registers the deal on the ledger.

@@ -237,7 +237,8 @@ impl House {
 
     /// The names of the parties with those of one more declaration.
     fn parties_with(&self, declaration: &Declaration) -> Result<BTreeSet<Name>, NoMemory>
-        ensures { IfOk result (λ parties. parties.keys ≡ parties_of (self.now ++ declaration.now ∷ [])) }
+        ensures { IfOk result (λ parties. parties.keys
+            ≡ parties_of (self.now ++ declaration.now ∷ [])) }
     {
         let parties = self.parties.clone()?;
         with_names(parties, declaration.parties())
@@ -282,7 +283,8 @@ impl House {
         None
     }
 
-    /// Whether a party of the deal has the name of a ledger or of a deal, the deal itself among them.
+    /// Whether a party of the deal has the name of a ledger or of a deal, the deal itself among
+    /// them.
     fn has_thing_among(&self, deal: &Name, parties: &[Name]) -> bool
         ensures { result ≡ list_any (λ party. names_thing self.now deal.now party) parties.now }
     {
@@ -307,13 +309,17 @@ impl House {
         if self.is_bound(name) || self.has_thing_among(name, members) {
             return Ok(Some(ScriptRule::NameTwice));
         }
-        if members.len() > MOST_MEMBERS || self.deal_count() >= MOST_DEALS || parties > MOST_PARTIES {
+        if members.len() > MOST_MEMBERS
+            || self.deal_count() >= MOST_DEALS
+            || parties > MOST_PARTIES
+        {
             return Ok(Some(ScriptRule::TooMany));
         }
         Ok(None)
     }
 
-    /// The rule that the declaration breaks behind those so far, where there are so many parties with its own.
+    /// The rule that the declaration breaks behind those so far, where there are so many parties
+    /// with its own.
     fn declaration_rule(
         &self,
         alloc: Global,
@@ -356,7 +362,8 @@ impl House {
         Ok(None)
     }
 
-    /// Whether each name that the event uses is that of a ledger, a deal or a party, as its place asks.
+    /// Whether each name that the event uses is that of a ledger, a deal or a party, as its place
+    /// asks.
     pub fn knows(&self, event: &Event) -> bool
         ensures { result ≡ are_known self.now event.now }
     {

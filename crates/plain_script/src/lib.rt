@@ -1,6 +1,7 @@
-//! Plain scripts as they are read. A plain script declares ledgers, opening rows and deals, and lists what happens to
-//! them, without signatures. Reading it answers the first line that breaks a rule, or what is declared and what happens,
-//! before any of it happens. The grammar, the rules and which line is refused are stated here, once.
+//! Plain scripts as they are read. A plain script declares ledgers, opening rows and deals, and
+//! lists what happens to them, without signatures. Reading it answers the first line that breaks a
+//! rule, or what is declared and what happens, before any of it happens. The grammar, the rules and
+//! which line is refused are stated here, once.
 //!
 //! - `declaration`, `event`, `statement`, `numbered`: what a line says.
 //! - `keyword`, `first_word`, `saying`: reading it from the line's words.
@@ -13,19 +14,19 @@
 
 pub mod declaration;
 pub mod event;
+mod first_word;
 pub mod halt;
 pub mod house;
 pub mod keyword;
-mod first_word;
 pub mod laws;
 pub mod numbered;
 pub mod place;
 mod reader;
 pub mod refused_line;
 pub mod rule;
+mod saying;
 pub mod script;
 pub mod statement;
-mod saying;
 
 pub use declaration::Declaration;
 pub use event::Event;

@@ -14,8 +14,8 @@ use crate::house::House;
 use crate::numbered::Numbered;
 use crate::place::Place;
 use crate::rule::ScriptRule;
-use crate::statement::Statement;
 use crate::saying::statement;
+use crate::statement::Statement;
 use dh_base::NoMemory;
 use line_text::TextLine;
 use line_text::text_line::is_passed_over;
@@ -61,7 +61,12 @@ impl Model for Reader {
 
     ghost Value = { Front };
 
-    ghost view = { λ r. record { number = r.number; place = r.place; declarations = r.house; events = r.events.items } };
+    ghost view = { λ r. record {
+      number = r.number;
+      place = r.place;
+      declarations = r.house;
+      events = r.events.items;
+    } };
 }
 
 impl Reader {
@@ -120,7 +125,8 @@ impl Reader {
     /// Takes what the line says, or answers the rule that it breaks where it stands.
     fn state(&mut self, alloc: Global, statement: Statement) -> Result<Option<ScriptRule>, NoMemory>
         requires { self.old.number < 2 ^ 32 - 1 }
-        ensures rule { IfOk result (λ rule. rule ≡ statement_rule self.old.place self.old.declarations statement) }
+        ensures rule { IfOk result (λ rule. rule
+            ≡ statement_rule self.old.place self.old.declarations statement) }
         ensures stated { IfOk result (λ rule. IfNone rule (self.new ≡ stated self.old statement)) }
         ensures number { OnOk result (self.new.number ≡ self.old.number) }
     {
@@ -149,8 +155,10 @@ impl Reader {
         said: Option<Statement>,
     ) -> Result<Option<ScriptRule>, NoMemory>
         requires { self.old.number < 2 ^ 32 - 1 }
-        ensures rule { IfOk result (λ rule. rule ≡ said_rule self.old.number self.old.place self.old.declarations said) }
-        ensures stated { IfOk result (λ rule. IfNone rule (self.new ≡ stated_all self.old (to_list said))) }
+        ensures rule { IfOk result (λ rule. rule
+            ≡ said_rule self.old.number self.old.place self.old.declarations said) }
+        ensures stated { IfOk result (λ rule. IfNone rule (self.new
+            ≡ stated_all self.old (to_list said))) }
         ensures number { OnOk result (self.new.number ≡ self.old.number) }
     {
         let Some(statement) = said else {
@@ -169,7 +177,8 @@ impl Reader {
     ) -> Result<Option<ScriptRule>, NoMemory>
         requires { self.old.number < 2 ^ 32 - 1 }
         ensures rule { IfOk result (λ rule. rule ≡ rule_behind self.old (line_of line.now)) }
-        ensures after { IfOk result (λ rule. IfNone rule (self.new ≡ front_after self.old (line_of line.now))) }
+        ensures after { IfOk result (λ rule. IfNone rule (self.new
+            ≡ front_after self.old (line_of line.now))) }
         ensures number { OnOk result (self.new.number ≡ self.old.number + 1) }
     {
         if line.ended && is_passed_over(line.text) {

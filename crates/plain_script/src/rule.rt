@@ -57,8 +57,8 @@ impl ScriptRule {
         }
     }
 
-    /// The rule that this build answers for it: every rule that a line breaks is told as a bad line, save that the line
-    /// is of a form that isn't built.
+    /// The rule that this build answers for it: every rule that a line breaks is told as a bad
+    /// line, save that the line is of a form that isn't built.
     pub fn answered(self) -> ScriptRule
         ensures { result ≡ answered self }
     {

@@ -19,8 +19,8 @@ ghost use Rattle.plain_script.specs.Said.{
 
 use crate::declaration::Declaration;
 use crate::event::Event;
-use crate::keyword::Keyword;
 use crate::first_word::keyword;
+use crate::keyword::Keyword;
 use crate::statement::Statement;
 use dh_base::{List, Name, NoMemory};
 use line_text::Words;

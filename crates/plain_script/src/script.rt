@@ -46,7 +46,8 @@ fn whole(reader: Reader) -> Result<Script, PlainHalt>
     }
 }
 
-/// Reads a plain script: what it says, or the first line that breaks a rule before anything happens.
+/// Reads a plain script: what it says, or the first line that breaks a rule before anything
+/// happens.
 pub fn read_script(alloc: Global, script: &[u8]) -> Result<Script, PlainHalt>
     ensures value { Answers result (reading_of script.now) }
     ensures few { IfOk result (λ told. length told.events < 4294967295) }

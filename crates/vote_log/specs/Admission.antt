@@ -23,10 +23,12 @@ votable_of log deal = votable_by (first_start log deal) (outcome_of log deal)
 abbrev pub no_account : Id
 no_account = record { 0 = replicate 32 0 }
 
--- a start finds the deal started, or no room for itself and a vote of each party beside the votes that are owed
+-- a start finds the deal started, or no room for itself and a vote of each party beside the votes
+-- that are owed
 abbrev pub start_refusal : Option Started → (length owed limit parties : ℕ) → Option LogFault
 start_refusal (Some start) len owed limit parties = Some (StartedAlready start.at)
-start_refusal None len owed limit parties = if nat_lt limit (len + owed + 1 + parties) then Some (LogFull len owed) else None
+start_refusal None len owed limit parties =
+    if nat_lt limit (len + owed + 1 + parties) then Some (LogFull len owed) else None
 
 -- a commit finds one by its index
 abbrev pub commit_refusal : Option ℕ → Option LogFault
@@ -38,24 +40,29 @@ abbrev pub earlier_commit : Id → Option Started → ℕ → Option ℕ
 earlier_commit deal None index = None
 earlier_commit deal (Some start) index = commit_place deal start index
 
--- a vote finds the deal not started or decided, an index that is none of the deal's, or an earlier commit
+-- a vote finds the deal not started or decided, an index that is none of the deal's, or an earlier
+-- commit
 abbrev pub vote_refusal : Result ℕ LogFault → ℕ → Option ℕ → Option LogFault
 vote_refusal (Err fault) index earlier = Some fault
-vote_refusal (Ok parties) index earlier = if nat_le parties index then Some (NotAParty no_account) else commit_refusal earlier
+vote_refusal (Ok parties) index earlier =
+    if nat_le parties index then Some (NotAParty no_account) else commit_refusal earlier
 
 -- why the log refuses the record, if it does
 abbrev pub add_refusal : List Entry → ℕ → Entry → Option LogFault
 add_refusal log limit entry = refusal_of entry.kind
   where
     refusal_of : Kind → Option LogFault
-    refusal_of Start = start_refusal (first_start log entry.deal) (length log) (owed_of log) limit entry.num
-    refusal_of Commit = vote_refusal (votable_of log entry.deal) entry.num (earlier_commit entry.deal (first_start log entry.deal) entry.num)
+    refusal_of Start = start_refusal (first_start log entry.deal) (length log)
+        (owed_of log) limit entry.num
+    refusal_of Commit = vote_refusal (votable_of log entry.deal) entry.num
+        (earlier_commit entry.deal (first_start log entry.deal) entry.num)
     refusal_of Abort = vote_refusal (votable_of log entry.deal) entry.num None
 
 -- each record of `rest` was taken behind those before it, the first of them behind `front`
 abbrev pub IsLogFrom : ℕ → List Entry → List Entry → Type 0
 IsLogFrom limit front [] = Unit {0}
-IsLogFrom limit front (entry ∷ rest) = (add_refusal front limit entry ≡ None) × IsLogFrom limit (front ++ entry ∷ []) rest
+IsLogFrom limit front (entry ∷ rest) =
+    (add_refusal front limit entry ≡ None) × IsLogFrom limit (front ++ entry ∷ []) rest
 
 -- the log is reached from the empty one by records that it took
 abbrev pub IsLog : List Entry → ℕ → Type 0

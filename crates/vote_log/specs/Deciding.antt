@@ -47,14 +47,17 @@ pub record Started : Type 0 where
 abbrev pub first_start_from : Id → ℕ → List Entry → Option Started
 first_start_from deal place [] = None
 first_start_from deal place (entry ∷ rest) =
-    if is_start deal entry then Some (record { at = place; parties = entry.num; since = rest }) else first_start_from deal (place + 1) rest
+    if is_start deal entry
+    then Some (record { at = place; parties = entry.num; since = rest })
+    else first_start_from deal (place + 1) rest
 
 abbrev pub first_start : List Entry → Id → Option Started
 first_start log deal = first_start_from deal 0 log
 
 -- the start, with one more entry since
 abbrev pub followed : Started → Entry → Started
-followed start entry = record { at = start.at; parties = start.parties; since = start.since ++ entry ∷ [] }
+followed start entry =
+    record { at = start.at; parties = start.parties; since = start.since ++ entry ∷ [] }
 
 -- where the index committed first since the start
 abbrev pub commit_place : Id → Started → ℕ → Option ℕ
@@ -73,16 +76,20 @@ all_committed deal start = all_below (has_committed deal start) start.parties
 
 -- the entry is a commit by which each index has one
 abbrev pub completes : Id → Started → Entry → Bool
-completes deal start entry = commits entry.kind && (is_of deal entry && all_committed deal (followed start entry))
+completes deal start entry =
+    commits entry.kind && (is_of deal entry && all_committed deal (followed start entry))
 
 -- the entry is an abort by an index of the deal, while some index has no commit
 abbrev pub breaks_off : Id → Started → Entry → Bool
-breaks_off deal start entry = aborts entry.kind && (is_of deal entry && (nat_lt entry.num start.parties && not (all_committed deal start)))
+breaks_off deal start entry =
+    aborts entry.kind
+    && (is_of deal entry && (nat_lt entry.num start.parties && not (all_committed deal start)))
 
 -- what an entry decides of a started deal
 abbrev pub decided_by : Id → Started → Entry → Option Outcome
 decided_by deal start entry =
-    if completes deal start entry then Some ToCommit else (if breaks_off deal start entry then Some ToAbort else None)
+    if completes deal start entry then Some ToCommit
+    else (if breaks_off deal start entry then Some ToAbort else None)
 
 -- the same after all entries before it
 abbrev pub decided_after : Id → Option Started → Entry → Option Outcome
@@ -98,7 +105,8 @@ at_place place (Some outcome) later = Some (record { outcome = outcome; at = pla
 abbrev pub outcome_from : Id → List Entry → List Entry → Option Decision
 outcome_from deal front [] = None
 outcome_from deal front (entry ∷ rest) =
-    at_place (length front) (decided_after deal (first_start front deal) entry) (outcome_from deal (front ++ entry ∷ []) rest)
+    at_place (length front) (decided_after deal (first_start front deal) entry)
+    (outcome_from deal (front ++ entry ∷ []) rest)
 
 -- what the log decides of the deal, and at which place
 abbrev pub outcome_of : List Entry → Id → Option Decision

@@ -22,7 +22,8 @@ pub record IsTally (log : List Entry) (deal : Id) (tally : Tally) : Type 0 where
   pub parties : tally.parties ≡ start.parties
   pub few : tally.parties ≤ 16
   pub indices : length tally.committed ≡ 16
-  pub committed : (index : ℕ) → index < 16 → slice_index_or tally.committed index None ≡ commit_place deal start index
+  pub committed : (index : ℕ) → index < 16
+      → slice_index_or tally.committed index None ≡ commit_place deal start index
   pub decision : tally.decision ≡ outcome_of log deal
 
 abbrev pub StandsFor : List Entry → Id → Option Tally → Type 0
@@ -34,32 +35,41 @@ IsSmall None = Unit {0}
 IsSmall (Some tally) = tally.parties ≤ 16
 
 abbrev pub all_placed : List (Option ℕ) → ℕ → Bool
-all_placed committed parties = all_below (λ index. is_some (slice_index_or committed index None)) parties
+all_placed committed parties =
+    all_below (λ index. is_some (slice_index_or committed index None)) parties
 
 abbrev pub unplaced : List (Option ℕ) → ℕ → ℕ
-unplaced committed parties = count_below (λ index. not (is_some (slice_index_or committed index None))) parties
+unplaced committed parties =
+    count_below (λ index. not (is_some (slice_index_or committed index None))) parties
 
 abbrev pub placed_with : List (Option ℕ) → ℕ → ℕ → List (Option ℕ)
 placed_with committed index place =
-    if is_some (slice_index_or committed index None) then committed else slice_set committed index (Some place)
+    if is_some (slice_index_or committed index None) then committed
+    else slice_set committed index (Some place)
 
 abbrev pub decided_first : Option Decision → Bool → Outcome → ℕ → Option Decision
 decided_first (Some decision) decides outcome at = Some decision
-decided_first None decides outcome at = if decides then Some (record { outcome = outcome; at = at }) else None
+decided_first None decides outcome at =
+    if decides then Some (record { outcome = outcome; at = at }) else None
 
 abbrev pub opened_tally : ℕ → ℕ → Tally
-opened_tally at parties = record { at = at; parties = parties; committed = replicate 16 None; decision = None }
+opened_tally at parties =
+    record { at = at; parties = parties; committed = replicate 16 None; decision = None }
 
 abbrev pub committed_tally : Tally → ℕ → ℕ → Tally
 committed_tally tally index place =
     record tally {
       committed = placed_with tally.committed index place;
-      decision = decided_first tally.decision (all_placed (placed_with tally.committed index place) tally.parties) ToCommit place;
+      decision = decided_first tally.decision
+          (all_placed (placed_with tally.committed index place) tally.parties) ToCommit place;
     }
 
 abbrev pub aborted_tally : Tally → ℕ → ℕ → Tally
 aborted_tally tally index place =
-    record tally { decision = decided_first tally.decision (nat_lt index tally.parties && not (all_placed tally.committed tally.parties)) ToAbort place }
+    record tally {
+      decision = decided_first tally.decision
+          (nat_lt index tally.parties && not (all_placed tally.committed tally.parties)) ToAbort place;
+    }
 
 -- the tally after a record of its deal
 abbrev pub tally_with : Option Tally → Kind → ℕ → ℕ → Option Tally
@@ -72,7 +82,8 @@ tally_with (Some tally) Abort num place = Some (aborted_tally tally num place)
 
 -- the tally after one more record of the log
 abbrev pub tally_after : Id → Option Tally → Entry → ℕ → Option Tally
-tally_after deal tally entry place = if is_of deal entry then tally_with tally entry.kind entry.num place else tally
+tally_after deal tally entry place =
+    if is_of deal entry then tally_with tally entry.kind entry.num place else tally
 
 abbrev pub owed_in : Option Tally → ℕ
 owed_in None = 0
@@ -92,12 +103,14 @@ votable_in (Some tally) = votable_by_decision tally.parties tally.decision
 
 abbrev pub start_refusal_in : Option Tally → (len owed limit parties : ℕ) → Option LogFault
 start_refusal_in (Some tally) len owed limit parties = Some (StartedAlready tally.at)
-start_refusal_in None len owed limit parties = if nat_lt limit (len + owed + 1 + parties) then Some (LogFull len owed) else None
+start_refusal_in None len owed limit parties =
+    if nat_lt limit (len + owed + 1 + parties) then Some (LogFull len owed) else None
 
 -- why a record of this kind and number is refused
 abbrev pub refusal_by_kind : Kind → Option Tally → (len owed limit num : ℕ) → Option LogFault
 refusal_by_kind Start tally len owed limit num = start_refusal_in tally len owed limit num
-refusal_by_kind Commit tally len owed limit num = vote_refusal (votable_in tally) num (place_in tally num)
+refusal_by_kind Commit tally len owed limit num =
+    vote_refusal (votable_in tally) num (place_in tally num)
 refusal_by_kind Abort tally len owed limit num = vote_refusal (votable_in tally) num None
 
 abbrev pub refusal_in : Option Tally → (len owed limit : ℕ) → Entry → Option LogFault

@@ -1,5 +1,5 @@
-//! The log of votes: which deals were started, who voted to commit or to abort, and what that decides.
-//! A log has a limit, and keeps room for every vote that a started deal still needs.
+//! The log of votes: which deals were started, who voted to commit or to abort, and what that
+//! decides. A log has a limit, and keeps room for every vote that a started deal still needs.
 //!
 //! - `kind`, `log_record`: the records of a log.
 //! - `decision`: what a log decides of a deal.

@@ -7,8 +7,8 @@ use crate::kind::Kind;
 use dh_base::{Id, Outcome};
 use std::marker::Model;
 
-/// A record of a log. For a start `num` is the number of parties, 2 to 16; for a vote it is the index
-/// of the party, 0 to 15.
+/// A record of a log. For a start `num` is the number of parties, 2 to 16; for a vote it is the
+/// index of the party, 0 to 15.
 #[derive(Clone, Copy, Debug, PartialEq, Eq)]
 pub struct LogRecord {
     pub kind: Kind,

@@ -73,7 +73,8 @@ impl Records {
         votable_by(&self.tallies.get(deal).copied())
     }
 
-    /// What the log decides of the deal, and where: the `outcome` of its records. It takes no memory.
+    /// What the log decides of the deal, and where: the `outcome` of its records. It takes no
+    /// memory.
     pub fn decision(&self, deal: &Id) -> Option<Decision>
         ensures { result ≡ outcome_of self.now.entries deal.now }
     {
@@ -109,8 +110,9 @@ impl Records {
         }
     }
 
-    /// Takes the last record back, as where a commit failed that was to keep it. It takes no memory,
-    /// so a record can be added first, to learn whether it is refused, and be kept afterwards.
+    /// Takes the last record back, as where a commit failed that was to keep it. It takes no
+    /// memory, so a record can be added first, to learn whether it is refused, and be kept
+    /// afterwards.
     pub fn take_back(&mut self) -> Option<LogRecord>
         ensures taken { MatchOption result (self.old.entries ≡ []) (λ last.
             self.old ≡ record self.new { entries = self.new.entries ++ last ∷ [] }) }

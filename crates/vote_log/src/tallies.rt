@@ -46,7 +46,8 @@ impl Tallies {
     pub fn put(&mut self, deal: &Id, tally: Option<Tally>) -> Result<(), NoMemory>
         ensures ok { OnOk result ((other : Id) → tally_at self.new other
             ≡ (if bytes_eq deal.now.0 other.0 then tally else tally_at self.old other)) }
-        ensures err { OnErr result ((other : Id) → tally_at self.new other ≡ tally_at self.old other) }
+        ensures err { OnErr result ((other : Id)
+            → tally_at self.new other ≡ tally_at self.old other) }
     {
         match tally {
             Some(tally) => {

@@ -51,7 +51,11 @@ fn without_place(committed: &[Option<u32>; MOST_PARTIES], parties: u16) -> u32
 }
 
 /// The places with that of one more commit. The first place of an index stays.
-fn with_place(mut committed: [Option<u32>; MOST_PARTIES], index: u16, place: u32) -> [Option<u32>; MOST_PARTIES]
+fn with_place(
+    mut committed: [Option<u32>; MOST_PARTIES],
+    index: u16,
+    place: u32,
+) -> [Option<u32>; MOST_PARTIES]
     requires { index < 16 }
     ensures { result ≡ placed_with committed index place }
 {
