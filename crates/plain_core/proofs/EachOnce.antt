@@ -8,7 +8,7 @@ use Rattle.std.specs.BTreeSet.{insert_key}
 use Rattle.std.proofs.lemmas.Bool.{and_from, eqb-true, or_from, or_left, or_right, or_cases, not_from_false, false_from_ne_true, both_ways}
 use Rattle.std.proofs.lemmas.Cmp.{nat_list_cmp_total}
 use Rattle.std.proofs.lemmas.Slice.Eq.{bytes_eq-Decides}
-use Rattle.plain_script.specs.Bound.{with_names, in_order, are_different}
+use Rattle.plain_script.specs.BoundNames.{with_names, in_order, are_different}
 use Rattle.plain_script.proofs.NamesSame.{compared_same}
 
 -- ---- names in ascending order

@@ -12,8 +12,8 @@ use Rattle.escrow_book.specs.declared.fault.BookFault.{BookFault}
 use Rattle.escrow_book.specs.History.{History, with_change, parties_of, is_known, moves_of, is_move}
 use Rattle.escrow_book.specs.Reached.{IsReached, are_parties, registered, greatest_turn}
 use Rattle.escrow_book.specs.Refused.{escrow_refusal, transfer_refusal, settle_refusal}
-use Rattle.plain_script.specs.Bound.{members_of}
-use Rattle.plain_script.specs.Rules.{KeepRules}
+use Rattle.plain_script.specs.BoundNames.{members_of}
+use Rattle.plain_script.specs.Rules.{DeclareByRules}
 use Rattle.plain_script.specs.declared.declaration.Declaration.{Declaration}
 use Rattle.plain_core.specs.Ids.{plain_id}
 use Rattle.plain_core.specs.Ledgers.{LedgerTold, Answer, is_member, with_entry, accepts, refuses, act_refusal, act_answer, register_answer, escrow_answer, transfer_answer}
@@ -83,7 +83,7 @@ some_member : (members : List (List ℕ)) (party : List ℕ) → is_member membe
 some_member [] party e = absurd cc
 some_member (m ∷ ms) party e = omega arith
 
-pub register_quiet : GrowthLaws → (ds : List Declaration) (deal party : List ℕ) → KeepRules [] ds → (ledger : LedgerTold) → IsQuiet ledger (register_answer (members_of ds deal) deal party ledger)
+pub register_quiet : GrowthLaws → (ds : List Declaration) (deal party : List ℕ) → DeclareByRules [] ds → (ledger : LedgerTold) → IsQuiet ledger (register_answer (members_of ds deal) deal party ledger)
 register_quiet laws ds deal party keep ledger = by (is_member (members_of ds deal) party) refl
   where
     ids : List Id

@@ -9,8 +9,8 @@ use Rattle.std.proofs.lemmas.List.Sums.{sum_by-append, sum_by-cons, sum_by_push}
 use Rattle.std.proofs.lemmas.List.Folds.{list_any-append}
 use Rattle.std.proofs.lemmas.List.Concat.{flat_map-append}
 use Rattle.escrow_book.specs.Opening.{Row, same_id, has_row, total_of, asset_amount, is_good_row as is_good_behind, are_good_rows, is_good_opening, greatest_amount}
-use Rattle.plain_script.specs.Bound.{opened_of, opened_by, opens_on, opens_row, is_thing, is_ledger, is_good_row}
-use Rattle.plain_script.specs.Rules.{declaration_rule, KeepRules}
+use Rattle.plain_script.specs.BoundNames.{opened_of, opened_by, opens_on, opens_row, is_thing, is_ledger, is_good_row}
+use Rattle.plain_script.specs.Rules.{declaration_rule, DeclareByRules}
 use Rattle.plain_script.specs.declared.declaration.Declaration.{Declaration}
 use Rattle.plain_script.specs.declared.declaration.Declaration.TheVariants.{Ledger, Open, Deal}
 use Rattle.plain_script.specs.declared.rule.ScriptRule.TheVariants.{NameTwice, UnknownName, BadOpening}
@@ -155,17 +155,17 @@ few_more before (Open ledger asset party amount) on e few = here (bytes_eq on le
         omega (arith, sum_by_push (λ x. cond (opens_on on x) 1 0) before (Open ledger asset party amount), own, few)
 
 -- the rows of the lines from here on are good behind those of the lines before
-good_rows : (before ds : List Declaration) (on : List ℕ) → KeepRules before ds → are_good_rows (rows_of before on) (rows_of ds on) ≡ true
+good_rows : (before ds : List Declaration) (on : List ℕ) → DeclareByRules before ds → are_good_rows (rows_of before on) (rows_of ds on) ≡ true
 good_rows before [] on keep = refl
 good_rows before (d ∷ ds) on keep = one_more before d (rows_of ds on) on keep.0 (good_rows (before ++ d ∷ []) ds on keep.1)
 
-few_rows : (before ds : List Declaration) (on : List ℕ) → KeepRules before ds → count_by (opens_on on) before ≤ 1024 → count_by (opens_on on) (before ++ ds) ≤ 1024
+few_rows : (before ds : List Declaration) (on : List ℕ) → DeclareByRules before ds → count_by (opens_on on) before ≤ 1024 → count_by (opens_on on) (before ++ ds) ≤ 1024
 few_rows before [] on keep few = subst (λ (all : List Declaration). count_by (opens_on on) all ≤ 1024) (sym (append-nil before)) few
 few_rows before (d ∷ ds) on keep few =
     subst (λ (all : List Declaration). count_by (opens_on on) all ≤ 1024) (append_assoc before (d ∷ []) ds)
     (few_rows (before ++ d ∷ []) ds on keep.1 (few_more before d on keep.0 few))
 
-pub good_opening : (ds : List Declaration) (ledger : List ℕ) → KeepRules [] ds → is_good_opening (rows_of ds ledger) ≡ true
+pub good_opening : (ds : List Declaration) (ledger : List ℕ) → DeclareByRules [] ds → is_good_opening (rows_of ds ledger) ≡ true
 good_opening ds ledger keep =
     let few : length (rows_of ds ledger) ≤ 1024 = omega (arith, length_same ds ledger, few_rows [] ds ledger keep (omega arith)) in
     and_from (nat_le (length (rows_of ds ledger)) 1024) (are_good_rows [] (rows_of ds ledger)) (le-leb (length (rows_of ds ledger)) 1024 few) (good_rows [] ds ledger keep)

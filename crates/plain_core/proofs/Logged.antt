@@ -10,7 +10,7 @@ use Rattle.vote_log.specs.Entry.{Entry}
 use Rattle.vote_log.specs.Log.{Log}
 use Rattle.vote_log.specs.Admission.{add_refusal, votable_of}
 use Rattle.vote_log.specs.Voting.{vote_kind}
-use Rattle.plain_script.specs.Bound.{members_of}
+use Rattle.plain_script.specs.BoundNames.{members_of}
 use Rattle.plain_script.specs.declared.declaration.Declaration.{Declaration}
 use Rattle.plain_script.specs.declared.event.Event.{Event}
 use Rattle.plain_script.specs.declared.event.Event.TheVariants.{Register, Escrow, Transfer, Start, Commit, Abort, Claim}

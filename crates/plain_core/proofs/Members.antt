@@ -6,8 +6,8 @@ use Rattle.std.proofs.lemmas.Bool.{and_parts, and_from, leb-true, le-leb, ltb-fa
 use Rattle.std.proofs.lemmas.List.{length-map}
 use Rattle.escrow_book.specs.History.{is_in}
 use Rattle.escrow_book.specs.Reached.{are_parties, are_different as are_different_ids}
-use Rattle.plain_script.specs.Bound.{are_different, members_of, is_bound}
-use Rattle.plain_script.specs.Rules.{names_thing, declaration_rule, KeepRules}
+use Rattle.plain_script.specs.BoundNames.{are_different, members_of, is_bound}
+use Rattle.plain_script.specs.Rules.{names_thing, declaration_rule, DeclareByRules}
 use Rattle.plain_script.specs.declared.declaration.Declaration.{Declaration}
 use Rattle.plain_script.specs.declared.declaration.Declaration.TheVariants.{Ledger, Open, Deal}
 use Rattle.plain_script.specs.declared.rule.ScriptRule.TheVariants.{BadLine, NameTwice, TooMany}
@@ -46,7 +46,7 @@ members_by before name parties e =
     let both = and_parts (nat_le 2 (length parties)) (are_different parties) (not-false (nat_le 2 (length parties) && are_different parties) p.0) in
     (leb-true 2 (length parties) both.0, ltb-false 16 (length parties) (or_parts (nat_lt 16 (length parties)) _ r.0).0, both.1)
 
-members_from : (before ds : List Declaration) (deal : List ℕ) → KeepRules before ds → 0 < length (members_of ds deal) → AreMembers (members_of ds deal)
+members_from : (before ds : List Declaration) (deal : List ℕ) → DeclareByRules before ds → 0 < length (members_of ds deal) → AreMembers (members_of ds deal)
 members_from before [] deal keep some = absurd (omega (arith, some))
 members_from before (Ledger name ∷ ds) deal keep some = members_from (before ++ Ledger name ∷ []) ds deal keep.1 some
 members_from before (Open ledger asset party amount ∷ ds) deal keep some = members_from (before ++ Open ledger asset party amount ∷ []) ds deal keep.1 some
@@ -57,25 +57,25 @@ members_from before (Deal name parties ∷ ds) deal keep some =
     by true more rest = members_by before name parties keep.0
     by false more rest = rest more
 
-pub members_are_different : (ds : List Declaration) (deal : List ℕ) → KeepRules [] ds → 0 < length (members_of ds deal) → (2 ≤ length (members_of ds deal)) × (length (members_of ds deal) ≤ 16) × (are_different (members_of ds deal) ≡ true)
+pub members_are_different : (ds : List Declaration) (deal : List ℕ) → DeclareByRules [] ds → 0 < length (members_of ds deal) → (2 ≤ length (members_of ds deal)) × (length (members_of ds deal) ≤ 16) × (are_different (members_of ds deal) ≡ true)
 members_are_different ds deal keep some = members_from [] ds deal keep some
 
-pub members_are_parties : (ds : List Declaration) (deal : List ℕ) → KeepRules [] ds → 0 < length (members_of ds deal) → are_parties (map plain_id (members_of ds deal)) ≡ true
+pub members_are_parties : (ds : List Declaration) (deal : List ℕ) → DeclareByRules [] ds → 0 < length (members_of ds deal) → are_parties (map plain_id (members_of ds deal)) ≡ true
 members_are_parties ds deal keep some =
     let found = members_are_different ds deal keep some in
     parties_if_different (members_of ds deal) found.0 found.1 found.2
 
 -- ---- a list that is the parties of a deal
 
-pub parties_declared : (ds : List Declaration) (deal : List ℕ) (members : List (List ℕ)) → members ≡ members_of ds deal → KeepRules [] ds → 0 < length members → are_parties (map plain_id members) ≡ true
+pub parties_declared : (ds : List Declaration) (deal : List ℕ) (members : List (List ℕ)) → members ≡ members_of ds deal → DeclareByRules [] ds → 0 < length members → are_parties (map plain_id members) ≡ true
 parties_declared ds deal members is keep some =
     ap (λ (ms : List (List ℕ)). are_parties (map plain_id ms)) is ∙ members_are_parties ds deal keep (subst (λ (ms : List (List ℕ)). 0 < length ms) is some)
 
-pub several_declared : (ds : List Declaration) (deal : List ℕ) (members : List (List ℕ)) → members ≡ members_of ds deal → KeepRules [] ds → 0 < length members → 2 ≤ length members
+pub several_declared : (ds : List Declaration) (deal : List ℕ) (members : List (List ℕ)) → members ≡ members_of ds deal → DeclareByRules [] ds → 0 < length members → 2 ≤ length members
 several_declared ds deal members is keep some =
     subst (λ (ms : List (List ℕ)). 2 ≤ length ms) (sym is) (members_are_different ds deal keep (subst (λ (ms : List (List ℕ)). 0 < length ms) is some)).0
 
-pub few_declared : (ds : List Declaration) (deal : List ℕ) (members : List (List ℕ)) → members ≡ members_of ds deal → KeepRules [] ds → length members ≤ 16
+pub few_declared : (ds : List Declaration) (deal : List ℕ) (members : List (List ℕ)) → members ≡ members_of ds deal → DeclareByRules [] ds → length members ≤ 16
 few_declared ds deal members is keep = by members is
   where
     by : (ms : List (List ℕ)) → ms ≡ members_of ds deal → length ms ≤ 16

@@ -2,8 +2,8 @@
 use Rattle.std.proofs.Common.{◌≡◌, ℕ, ◌+◌, ◌<◌, ◌≤◌, List, [], ◌∷◌, map, length, refl, sym, ap, subst, ◌∙◌, inl, inr, arith}
 use Rattle.std.specs.Prelude.{Contains}
 use Rattle.escrow_book.specs.Reached.{IsReached}
-use Rattle.plain_script.specs.Bound.{members_of}
-use Rattle.plain_script.specs.Rules.{KeepRules}
+use Rattle.plain_script.specs.BoundNames.{members_of}
+use Rattle.plain_script.specs.Rules.{DeclareByRules}
 use Rattle.plain_script.specs.declared.declaration.Declaration.{Declaration}
 use Rattle.plain_script.specs.declared.event.Event.{Event}
 use Rattle.plain_script.specs.declared.event.Event.TheVariants.{Register, Escrow, Transfer, Start, Commit, Abort, Claim}
@@ -35,7 +35,7 @@ ledger_goes_on name f unknown ls follows ledger there =
       | inr found ↦ (found.0, found.2, subst (Follows found.0) (sym found.3) (follows found.0))
     ]
 
-pub step_goes_on : GrowthLaws → (ds : List Declaration) → KeepRules [] ds → (world : World) (event : Event) → GoOn world.ledgers (step_of ds world event).world.ledgers
+pub step_goes_on : GrowthLaws → (ds : List Declaration) → DeclareByRules [] ds → (world : World) (event : Event) → GoOn world.ledgers (step_of ds world event).world.ledgers
 step_goes_on laws ds keep world (Register ledger deal party) = ledger_goes_on ledger (register_answer (members_of ds deal) deal party) (RefusedAct UnknownAct) world.ledgers (λ l. (register_quiet laws ds deal party keep l).follows)
 step_goes_on laws ds keep world (Escrow ledger deal party asset amount) = ledger_goes_on ledger (escrow_answer deal party asset amount) (RefusedAct UnknownAct) world.ledgers (λ l. (escrow_quiet laws deal party asset amount l).follows)
 step_goes_on laws ds keep world (Transfer ledger deal from turn to asset amount) = ledger_goes_on ledger (transfer_answer deal from (number_or_zero turn) to asset amount) (RefusedAct UnknownAct) world.ledgers (λ l. (transfer_quiet laws deal from (number_or_zero turn) to asset amount l).follows)
@@ -55,7 +55,7 @@ pub record IsSound (ds : List Declaration) (n : ℕ) (ledger : LedgerTold) : Typ
 abbrev pub AreSound : List Declaration → ℕ → List LedgerTold → Type 0
 AreSound ds n ledgers = (ledger : LedgerTold) → Contains ledgers ledger → IsSound ds n ledger
 
-started_sound : (ds : List Declaration) → KeepRules [] ds → (names : List (List ℕ)) → AreSound ds 0 (map (started_ledger ds) names)
+started_sound : (ds : List Declaration) → DeclareByRules [] ds → (names : List (List ℕ)) → AreSound ds 0 (map (started_ledger ds) names)
 started_sound ds keep [] ledger there = absurd (contains_none ledger there)
 started_sound ds keep (name ∷ names) ledger there =
     elim (contains_cons (started_ledger ds name) (map (started_ledger ds) names) ledger there) [
@@ -63,10 +63,10 @@ started_sound ds keep (name ∷ names) ledger there =
       | inr more ↦ started_sound ds keep names ledger more
     ]
 
-pub start_sound : (ds : List Declaration) → KeepRules [] ds → AreSound ds 0 (started_world ds).ledgers
+pub start_sound : (ds : List Declaration) → DeclareByRules [] ds → AreSound ds 0 (started_world ds).ledgers
 start_sound ds keep = started_sound ds keep (ledger_names ds)
 
-pub step_sound : GrowthLaws → (ds : List Declaration) → KeepRules [] ds → (world : World) (event : Event) (n : ℕ) → n < 4294967295 → AreSound ds n world.ledgers → AreSound ds (n + 1) (step_of ds world event).world.ledgers
+pub step_sound : GrowthLaws → (ds : List Declaration) → DeclareByRules [] ds → (world : World) (event : Event) (n : ℕ) → n < 4294967295 → AreSound ds n world.ledgers → AreSound ds (n + 1) (step_of ds world event).world.ledgers
 step_sound laws ds keep world event n room sound ledger there =
     let old = step_goes_on laws ds keep world event ledger there in
     let s = sound old.0 old.1 in

@@ -13,7 +13,7 @@ use Rattle.vote_log.specs.Entry.{Entry}
 use Rattle.vote_log.specs.Log.{Log}
 use Rattle.vote_log.specs.Deciding.{outcome_of}
 use Rattle.plain_script.specs.Reading.{Refused}
-use Rattle.plain_script.specs.Rules.{KeepRules}
+use Rattle.plain_script.specs.Rules.{DeclareByRules}
 use Rattle.plain_script.specs.declared.declaration.Declaration.{Declaration}
 use Rattle.plain_script.specs.declared.numbered.Numbered.{Numbered}
 use Rattle.plain_script.specs.declared.rule.ScriptRule.TheVariants.{OutOfRange}
@@ -93,7 +93,7 @@ pub record IsGood (ds : List Declaration) (moment : Moment) : Type 0 where
 abbrev AreGood : List Declaration → List Moment → Type 0
 AreGood ds moments = (moment : Moment) → Contains moments moment → IsGood ds moment
 
-all_good : GrowthLaws → (ds : List Declaration) → KeepRules [] ds → (world : World) (n : ℕ) (events : List Numbered) → AreSound ds n world.ledgers → n + length events < 4294967295 → ((moment : Moment) → Contains (moments_from ds world events) moment → is_out_of_range moment.before moment.happened.event ≡ false) → AreGood ds (moments_from ds world events)
+all_good : GrowthLaws → (ds : List Declaration) → DeclareByRules [] ds → (world : World) (n : ℕ) (events : List Numbered) → AreSound ds n world.ledgers → n + length events < 4294967295 → ((moment : Moment) → Contains (moments_from ds world events) moment → is_out_of_range moment.before moment.happened.event ≡ false) → AreGood ds (moments_from ds world events)
 all_good laws ds keep world n [] sound room range moment there = absurd (contains_none moment there)
 all_good laws ds keep world n (happened ∷ rest) sound room range moment there =
     let next : World = (step_of ds world happened.event).world in
@@ -109,7 +109,7 @@ all_good laws ds keep world n (happened ∷ rest) sound room range moment there 
       | inr later ↦ all_good laws ds keep next (n + 1) rest after (omega (arith, room)) (λ m at. range m (contains_tail (moment_at ds world happened) (moments_from ds next rest) m at)) moment later
     ]
 
-settled_at : GrowthLaws → PayLaw → (ds : List Declaration) → KeepRules [] ds → (moment : Moment) → IsGood ds moment → IsSettledBy moment
+settled_at : GrowthLaws → PayLaw → (ds : List Declaration) → DeclareByRules [] ds → (moment : Moment) → IsGood ds moment → IsSettledBy moment
 settled_at laws law ds keep moment good =
     subst IsSettledBy good.is (settled_by laws law ds keep moment.before moment.happened.line moment.happened.event good.range good.reached)
 
@@ -128,7 +128,7 @@ abbrev WasMade : List Moment → List ℕ → Id → Outcome → Type 0
 WasMade moments name d o = (moment : Moment) × (deal : List ℕ) × Contains moments moment × (d ≡ plain_id deal) × IsSettlement moment name deal o
 
 -- a settlement at the end stood there at the start, or a moment made it
-made_by : GrowthLaws → PayLaw → (ds : List Declaration) → KeepRules [] ds → (world : World) (events : List Numbered) → AreGood ds (moments_from ds world events) → (ledger : LedgerTold) (d : Id) (o : Outcome) → Contains (end_of world (moments_from ds world events)).ledgers ledger → Contains ledger.history.changes (change.Settled d o) → HadSettled world.ledgers ledger.name d o ⊎ WasMade (moments_from ds world events) ledger.name d o
+made_by : GrowthLaws → PayLaw → (ds : List Declaration) → DeclareByRules [] ds → (world : World) (events : List Numbered) → AreGood ds (moments_from ds world events) → (ledger : LedgerTold) (d : Id) (o : Outcome) → Contains (end_of world (moments_from ds world events)).ledgers ledger → Contains ledger.history.changes (change.Settled d o) → HadSettled world.ledgers ledger.name d o ⊎ WasMade (moments_from ds world events) ledger.name d o
 made_by laws law ds keep world [] good ledger d o there settled = inl (record { ledger = ledger; there = there; named = refl; settled = settled })
 made_by laws law ds keep world (happened ∷ rest) good ledger d o there settled =
     let now : Moment = moment_at ds world happened in
@@ -188,7 +188,7 @@ keeps_assets laws ds n ledgers sound ledger there =
     let s = sound ledger there in
     record { opening = s.opening; conserved = λ accounts asset its. laws.conserved ledger.history accounts asset s.reached its; once = λ d. laws.once ledger.history d s.reached }
 
-pub follows_one_log : RunLaws → (ds : List Declaration) → KeepRules [] ds → (events : List Numbered) → length events < 4294967295 → ((moment : Moment) → Contains (moments_from ds (started_world ds) events) moment → is_out_of_range moment.before moment.happened.event ≡ false) → FollowsOneLog ds (run_between (started_world ds) (moments_from ds (started_world ds) events))
+pub follows_one_log : RunLaws → (ds : List Declaration) → DeclareByRules [] ds → (events : List Numbered) → length events < 4294967295 → ((moment : Moment) → Contains (moments_from ds (started_world ds) events) moment → is_out_of_range moment.before moment.happened.event ≡ false) → FollowsOneLog ds (run_between (started_world ds) (moments_from ds (started_world ds) events))
 follows_one_log laws ds keep events room range = record {
   agree = λ one other d first second a b. one_outcome run.end.log.entries d first second (by_log one d first a) (by_log other d second b);
   by_log = by_log;

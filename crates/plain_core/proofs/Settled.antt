@@ -8,8 +8,8 @@ use Rattle.dh_base.specs.declared.outcome.Outcome.{Outcome}
 use Rattle.dh_base.specs.declared.outcome.Outcome.TheVariants.{Commit as ToCommit, Abort as ToAbort}
 use Rattle.escrow_book.specs.declared.change.Change.TheVariants as change
 use Rattle.escrow_book.specs.Reached.{IsReached}
-use Rattle.plain_script.specs.Bound.{members_of}
-use Rattle.plain_script.specs.Rules.{KeepRules}
+use Rattle.plain_script.specs.BoundNames.{members_of}
+use Rattle.plain_script.specs.Rules.{DeclareByRules}
 use Rattle.plain_script.specs.declared.declaration.Declaration.{Declaration}
 use Rattle.plain_script.specs.declared.event.Event.{Event}
 use Rattle.plain_script.specs.declared.event.Event.TheVariants.{Register, Escrow, Transfer, Start, Commit, Abort, Claim}
@@ -151,7 +151,7 @@ claimed law ds world line name deal len shown reached = record { settlements = s
 
 -- ---- every event
 
-pub settled_by : GrowthLaws → PayLaw → (ds : List Declaration) → KeepRules [] ds → (world : World) (line : ℕ) (event : Event) → is_out_of_range world event ≡ false → ((ledger : LedgerTold) → Contains world.ledgers ledger → IsReached ledger.history) → IsSettledBy (moment_at ds world (record { line = line; event = event }))
+pub settled_by : GrowthLaws → PayLaw → (ds : List Declaration) → DeclareByRules [] ds → (world : World) (line : ℕ) (event : Event) → is_out_of_range world event ≡ false → ((ledger : LedgerTold) → Contains world.ledgers ledger → IsReached ledger.history) → IsSettledBy (moment_at ds world (record { line = line; event = event }))
 settled_by laws law ds keep world line (Register ledger deal party) range reached = quiet_act ds world line (Register ledger deal party) ledger (register_answer (members_of ds deal) deal party) refl (register_quiet laws ds deal party keep)
 settled_by laws law ds keep world line (Escrow ledger deal party asset amount) range reached = quiet_act ds world line (Escrow ledger deal party asset amount) ledger (escrow_answer deal party asset amount) refl (escrow_quiet laws deal party asset amount)
 settled_by laws law ds keep world line (Transfer ledger deal from turn to asset amount) range reached = quiet_act ds world line (Transfer ledger deal from turn to asset amount) ledger (transfer_answer deal from (number_or_zero turn) to asset amount) refl (transfer_quiet laws deal from (number_or_zero turn) to asset amount)

@@ -9,7 +9,7 @@ use Rattle.escrow_book.specs.Reached.{registered}
 use Rattle.vote_log.specs.declared.decision.Decision.{Decision}
 use Rattle.vote_log.specs.Entry.{Entry}
 use Rattle.vote_log.specs.Deciding.{outcome_of}
-use Rattle.plain_script.specs.Bound.{members_of}
+use Rattle.plain_script.specs.BoundNames.{members_of}
 use Rattle.plain_script.specs.declared.declaration.Declaration.{Declaration}
 use Rattle.plain_script.specs.declared.event.Event.{Event}
 use Rattle.plain_script.specs.declared.event.Event.TheVariants.{Register, Escrow, Transfer, Start, Commit, Abort, Claim}

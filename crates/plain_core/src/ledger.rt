@@ -24,7 +24,7 @@ use crate::openings::start_book;
 use crate::reply::Reply;
 use dh_base::{Id, Name, NoMemory};
 use escrow_book::{Book, BookFault};
-use plain_script::House;
+use plain_script::Declarations;
 use std::alloc::Global;
 use std::marker::Model;
 use vote_log::{LogRecord, outcome};
@@ -50,10 +50,14 @@ impl Model for Ledger {
 
 impl Ledger {
     /// The ledger of this name, as the script's declarations start it.
-    pub fn start(alloc: Global, house: &House, name: &Name) -> Result<Ledger, NoMemory>
-        ensures { IfOk result (λ ledger. ledger ≡ started_ledger house.now name.now) }
+    pub fn start(
+        alloc: Global,
+        declarations: &Declarations,
+        name: &Name,
+    ) -> Result<Ledger, NoMemory>
+        ensures { IfOk result (λ ledger. ledger ≡ started_ledger declarations.now name.now) }
     {
-        let book = start_book(alloc, house, name)?;
+        let book = start_book(alloc, declarations, name)?;
         Ok(Ledger {
             name: *name,
             book,

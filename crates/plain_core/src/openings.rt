@@ -7,7 +7,7 @@ ghost use Rattle.plain_core.specs.Openings.{rows_of};
 use crate::ids::plain_id;
 use dh_base::{Id, Name, NoMemory};
 use escrow_book::Book;
-use plain_script::{Declaration, House};
+use plain_script::{Declaration, Declarations};
 use std::alloc::Global;
 
 /// The rows that the declarations open on the ledger, in the order of their lines.
@@ -36,9 +36,13 @@ pub fn opening_rows(
 }
 
 /// The book of the ledger, which starts with the rows that are declared for it.
-pub fn start_book(alloc: Global, house: &House, ledger: &Name) -> Result<Book, NoMemory>
-    ensures { IfOk result (λ book. book ≡ started (rows_of house.now ledger.now)) }
+pub fn start_book(
+    alloc: Global,
+    declarations: &Declarations,
+    ledger: &Name,
+) -> Result<Book, NoMemory>
+    ensures { IfOk result (λ book. book ≡ started (rows_of declarations.now ledger.now)) }
 {
-    let rows = opening_rows(alloc, house.declarations(), ledger)?;
+    let rows = opening_rows(alloc, declarations.as_slice(), ledger)?;
     Book::start(alloc, &rows)
 }

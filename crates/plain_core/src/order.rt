@@ -1,10 +1,10 @@
 //! Names in ascending order, each once.
 
 ghost use Rattle.std.specs.Prelude.{◌≡◌, IfOk};
-ghost use Rattle.plain_script.specs.Bound.{in_order};
+ghost use Rattle.plain_script.specs.BoundNames.{in_order};
 
 use dh_base::{Name, NoMemory};
-use plain_script::house::with_names;
+use plain_script::declarations::with_names;
 use std::alloc::Global;
 use std::collections::BTreeSet;
 

@@ -12,7 +12,7 @@ use crate::reply::Reply;
 use crate::tables::write_tables;
 use crate::world::World;
 use dh_base::{List, NoMemory};
-use plain_script::{House, Numbered, PlainHalt, Script, ScriptRule, read_script};
+use plain_script::{Declarations, Numbered, PlainHalt, Script, ScriptRule, read_script};
 use std::alloc::Global;
 use std::fmt::Write;
 
@@ -27,13 +27,13 @@ fn write_reply(line: u32, reply: &Reply, out: &mut String) -> Result<(), NoMemor
 /// Lets an event happen, and writes its line.
 fn happen(
     alloc: Global,
-    house: &House,
+    declarations: &Declarations,
     happened: &Numbered,
     world: &mut World,
     out: &mut String,
 ) -> Result<(), PlainHalt>
     requires { AreWithin 4294967294 world.old.ledgers }
-    ensures { Happens result (string_bytes out.old) (string_bytes out.new) world.new (happened_of house.now world.old happened.now) }
+    ensures { Happens result (string_bytes out.old) (string_bytes out.new) world.new (happened_of declarations.now world.old happened.now) }
 {
     let line = happened.line;
     if world.is_out_of_range(&happened.event) {
@@ -42,7 +42,7 @@ fn happen(
             rule: ScriptRule::OutOfRange,
         });
     }
-    match world.step(alloc, house, &happened.event) {
+    match world.step(alloc, declarations, &happened.event) {
         Ok(reply) => Ok(write_reply(line, &reply, out)?),
         Err(error) => Err(PlainHalt::from(error)),
     }
@@ -52,11 +52,11 @@ fn happen(
 fn run(alloc: Global, script: &Script, out: &mut String) -> Result<World, PlainHalt>
     requires few { length script.now.events < 4294967295 }
     requires empty { string_bytes out.old ≡ [] }
-    ensures { GivesRun result (string_bytes out.new) (run_from script.now.house (started_world script.now.house) script.now.events) }
+    ensures { GivesRun result (string_bytes out.new) (run_from script.now.declarations (started_world script.now.declarations) script.now.events) }
 {
-    let mut world = World::start(alloc, &script.house)?;
+    let mut world = World::start(alloc, &script.declarations)?;
     for happened in script.events.as_slice() {
-        happen(alloc, &script.house, happened, &mut world, out)?;
+        happen(alloc, &script.declarations, happened, &mut world, out)?;
     }
     Ok(world)
 }
@@ -68,7 +68,7 @@ fn report(alloc: Global, script: &Script) -> Result<List<u8>, PlainHalt>
 {
     let mut text = String::new(alloc);
     let world = run(alloc, script, &mut text)?;
-    write_tables(alloc, &script.house, &world, &mut text)?;
+    write_tables(alloc, &script.declarations, &world, &mut text)?;
     Ok(List::from_vec(text.into_bytes()))
 }
 

@@ -27,7 +27,7 @@ use crate::order::{in_order, listed};
 use crate::world::World;
 use dh_base::{Id, Name, NoMemory, Outcome};
 use escrow_book::Book;
-use plain_script::{Declaration, House};
+use plain_script::{Declaration, Declarations};
 use std::alloc::Global;
 use std::fmt::Write;
 
@@ -185,36 +185,36 @@ fn write_registered(
 /// The deal, if it is registered on the ledger of the book.
 fn write_deal(
     alloc: Global,
-    house: &House,
+    declarations: &Declarations,
     book: &Book,
     assets: &[Name],
     deal: &Name,
     out: &mut String,
 ) -> Result<(), NoMemory>
     ensures { OnOk result (string_bytes out.new
-        ≡ string_bytes out.old ++ deal_text house.now book.now assets.now deal.now) }
+        ≡ string_bytes out.old ++ deal_text declarations.now book.now assets.now deal.now) }
 {
     if !book.is_registered(&plain_id(deal)) {
         return Ok(());
     }
-    let parties = in_order(alloc, house.members(deal))?;
+    let parties = in_order(alloc, declarations.members(deal))?;
     write_registered(book, assets, deal, &parties, out)
 }
 
 /// The deals that are registered on the ledger of the book, among these.
 fn write_deals(
     alloc: Global,
-    house: &House,
+    declarations: &Declarations,
     book: &Book,
     assets: &[Name],
     deals: &[Name],
     out: &mut String,
 ) -> Result<(), NoMemory>
     ensures { OnOk result (string_bytes out.new
-        ≡ string_bytes out.old ++ flat_map (deal_text house.now book.now assets.now) deals.now) }
+        ≡ string_bytes out.old ++ flat_map (deal_text declarations.now book.now assets.now) deals.now) }
 {
     for deal in deals {
-        write_deal(alloc, house, book, assets, deal, out)?;
+        write_deal(alloc, declarations, book, assets, deal, out)?;
     }
     Ok(())
 }
@@ -249,21 +249,21 @@ fn deal_names(alloc: Global, declarations: &[Declaration]) -> Result<Vec<Name>, 
 
 fn write_ledger(
     alloc: Global,
-    house: &House,
+    declarations: &Declarations,
     ledger: &Ledger,
     out: &mut String,
 ) -> Result<(), NoMemory>
     ensures { OnOk result (string_bytes out.new
-        ≡ string_bytes out.old ++ ledger_text house.now ledger.now) }
+        ≡ string_bytes out.old ++ ledger_text declarations.now ledger.now) }
 {
     let name = ledger.name();
     let book = ledger.book();
     let assets = assets_of(alloc, book)?;
-    let parties = listed(alloc, house.parties())?;
-    let deals = in_order(alloc, &deal_names(alloc, house.declarations())?)?;
+    let parties = listed(alloc, declarations.parties())?;
+    let deals = in_order(alloc, &deal_names(alloc, declarations.as_slice())?)?;
     write!(out, "ledger {name}\n")?;
     Rows::Free.write_all(book, &assets, &parties, out)?;
-    write_deals(alloc, house, book, &assets, &deals, out)
+    write_deals(alloc, declarations, book, &assets, &deals, out)
 }
 
 /// The first ledger of that name.
@@ -276,16 +276,16 @@ fn find_ledger<'a>(ledgers: &'a [Ledger], name: &Name) -> Option<&'a Ledger>
 
 fn write_named(
     alloc: Global,
-    house: &House,
+    declarations: &Declarations,
     ledgers: &[Ledger],
     name: &Name,
     out: &mut String,
 ) -> Result<(), NoMemory>
     ensures { OnOk result (string_bytes out.new
-        ≡ string_bytes out.old ++ named_text house.now ledgers.now name.now) }
+        ≡ string_bytes out.old ++ named_text declarations.now ledgers.now name.now) }
 {
     match find_ledger(ledgers, name) {
-        Some(ledger) => write_ledger(alloc, house, ledger, out),
+        Some(ledger) => write_ledger(alloc, declarations, ledger, out),
         None => Ok(()),
     }
 }
@@ -293,16 +293,16 @@ fn write_named(
 /// The ledgers of these names.
 fn write_ledgers(
     alloc: Global,
-    house: &House,
+    declarations: &Declarations,
     ledgers: &[Ledger],
     names: &[Name],
     out: &mut String,
 ) -> Result<(), NoMemory>
     ensures { OnOk result (string_bytes out.new
-        ≡ string_bytes out.old ++ flat_map (named_text house.now ledgers.now) names.now) }
+        ≡ string_bytes out.old ++ flat_map (named_text declarations.now ledgers.now) names.now) }
 {
     for name in names {
-        write_named(alloc, house, ledgers, name, out)?;
+        write_named(alloc, declarations, ledgers, name, out)?;
     }
     Ok(())
 }
@@ -318,14 +318,14 @@ fn ledger_names(alloc: Global, ledgers: &[Ledger]) -> Result<Vec<Name>, NoMemory
 /// The final tables: for each ledger what is free on it, and each deal that is registered there.
 pub fn write_tables(
     alloc: Global,
-    house: &House,
+    declarations: &Declarations,
     world: &World,
     out: &mut String,
 ) -> Result<(), NoMemory>
     ensures { OnOk result (string_bytes out.new
-        ≡ string_bytes out.old ++ tables_text house.now world.now) }
+        ≡ string_bytes out.old ++ tables_text declarations.now world.now) }
 {
     let ledgers = world.ledgers();
     let names = in_order(alloc, &ledger_names(alloc, ledgers)?)?;
-    write_ledgers(alloc, house, ledgers, &names, out)
+    write_ledgers(alloc, declarations, ledgers, &names, out)
 }

@@ -2,7 +2,7 @@
 
 ghost use Rattle.std.specs.Prelude.{◌≡◌, ◌≤◌, length, position, false, IfOk};
 ghost use Rattle.std.specs.Str.{bytes_eq};
-ghost use Rattle.plain_script.specs.Bound.{members_of};
+ghost use Rattle.plain_script.specs.BoundNames.{members_of};
 ghost use Rattle.plain_core.specs.Given.{GivesStep, AreWithin};
 ghost use Rattle.plain_core.specs.Starts.{started_world};
 ghost use Rattle.plain_core.specs.Reports.{is_out_of_range};
@@ -28,7 +28,7 @@ use crate::ledger::Ledger;
 use crate::reply::Reply;
 use crate::voting;
 use dh_base::{Name, NoMemory, Outcome};
-use plain_script::{Declaration, Event, House};
+use plain_script::{Declaration, Declarations, Event};
 use std::alloc::Global;
 use std::marker::Model;
 use vote_log::Records;
@@ -52,13 +52,13 @@ impl Model for World {
 }
 
 /// The ledgers that the declarations start, in the order of their lines.
-fn start_ledgers(alloc: Global, house: &House) -> Result<Vec<Ledger>, NoMemory>
-    ensures { IfOk result (λ ledgers. ledgers.items ≡ (started_world house.now).ledgers) }
+fn start_ledgers(alloc: Global, declarations: &Declarations) -> Result<Vec<Ledger>, NoMemory>
+    ensures { IfOk result (λ ledgers. ledgers.items ≡ (started_world declarations.now).ledgers) }
 {
     let mut ledgers = Vec::new(alloc);
-    for declaration in house.declarations() {
+    for declaration in declarations.as_slice() {
         if let Declaration::Ledger { name } = declaration {
-            ledgers.push(Ledger::start(alloc, house, name)?)?;
+            ledgers.push(Ledger::start(alloc, declarations, name)?)?;
         }
     }
     Ok(ledgers)
@@ -66,11 +66,11 @@ fn start_ledgers(alloc: Global, house: &House) -> Result<Vec<Ledger>, NoMemory>
 
 impl World {
     /// The ledgers as the script's declarations start them, and an empty log.
-    pub fn start(alloc: Global, house: &House) -> Result<World, NoMemory>
-        ensures { IfOk result (λ world. world ≡ started_world house.now) }
+    pub fn start(alloc: Global, declarations: &Declarations) -> Result<World, NoMemory>
+        ensures { IfOk result (λ world. world ≡ started_world declarations.now) }
     {
         Ok(World {
-            ledgers: start_ledgers(alloc, house)?,
+            ledgers: start_ledgers(alloc, declarations)?,
             log: Records::new(alloc, MOST_RECORDS),
         })
     }
@@ -92,17 +92,22 @@ impl World {
     fn register(
         &mut self,
         alloc: Global,
-        house: &House,
+        declarations: &Declarations,
         ledger: &Name,
         deal: &Name,
         party: &Name,
     ) -> Result<Reply, NoMemory>
         requires { AreWithin 4294967294 self.old.ledgers }
-        ensures { GivesStep result self.new (act_at self.old ledger.now (register_answer (members_of house.now deal.now) deal.now party.now)) }
+        ensures { GivesStep result self.new (act_at self.old ledger.now (register_answer (members_of declarations.now deal.now) deal.now party.now)) }
     {
         match self.place_of(ledger) {
             None => Ok(Reply::RefusedAct(ActRefusal::UnknownDeal)),
-            Some(place) => self.ledgers[place].register(alloc, house.members(deal), deal, party),
+            Some(place) => self.ledgers[place].register(
+                alloc,
+                declarations.members(deal),
+                deal,
+                party,
+            ),
         }
     }
 
@@ -153,22 +158,33 @@ impl World {
         }
     }
 
-    fn start_deal(&mut self, house: &House, deal: &Name, party: &Name) -> Result<Reply, NoMemory>
-        ensures { GivesStep result self.new (with_log self.old (start_answer (members_of house.now deal.now) deal.now party.now self.old.log)) }
+    fn start_deal(
+        &mut self,
+        declarations: &Declarations,
+        deal: &Name,
+        party: &Name,
+    ) -> Result<Reply, NoMemory>
+        ensures { GivesStep result self.new (with_log self.old (start_answer (members_of declarations.now deal.now) deal.now party.now self.old.log)) }
     {
-        voting::start_deal(&mut self.log, house.members(deal), deal, party)
+        voting::start_deal(&mut self.log, declarations.members(deal), deal, party)
     }
 
     fn vote(
         &mut self,
-        house: &House,
+        declarations: &Declarations,
         choice: Outcome,
         deal: &Name,
         party: &Name,
     ) -> Result<Reply, NoMemory>
-        ensures { GivesStep result self.new (with_log self.old (vote_answer (members_of house.now deal.now) choice deal.now party.now self.old.log)) }
+        ensures { GivesStep result self.new (with_log self.old (vote_answer (members_of declarations.now deal.now) choice deal.now party.now self.old.log)) }
     {
-        voting::vote(&mut self.log, house.members(deal), choice, deal, party)
+        voting::vote(
+            &mut self.log,
+            declarations.members(deal),
+            choice,
+            deal,
+            party,
+        )
     }
 
     /// Whether a number of the event exceeds its field, or the log.
@@ -186,17 +202,22 @@ impl World {
     }
 
     /// What happens at an event.
-    pub fn step(&mut self, alloc: Global, house: &House, event: &Event) -> Result<Reply, NoMemory>
+    pub fn step(
+        &mut self,
+        alloc: Global,
+        declarations: &Declarations,
+        event: &Event,
+    ) -> Result<Reply, NoMemory>
         requires few { AreWithin 4294967294 self.old.ledgers }
         requires in_range { is_out_of_range self.old event.now ≡ false }
-        ensures { GivesStep result self.new (step_of house.now self.old event.now) }
+        ensures { GivesStep result self.new (step_of declarations.now self.old event.now) }
     {
         match event {
             Event::Register {
                 ledger,
                 deal,
                 party,
-            } => self.register(alloc, house, ledger, deal, party),
+            } => self.register(alloc, declarations, ledger, deal, party),
             Event::Escrow {
                 ledger,
                 deal,
@@ -213,9 +234,9 @@ impl World {
                 asset,
                 amount,
             } => self.transfer(ledger, deal, from, turn.unwrap_or(0), to, asset, *amount),
-            Event::Start { deal, party } => self.start_deal(house, deal, party),
-            Event::Commit { deal, party } => self.vote(house, Outcome::Commit, deal, party),
-            Event::Abort { deal, party } => self.vote(house, Outcome::Abort, deal, party),
+            Event::Start { deal, party } => self.start_deal(declarations, deal, party),
+            Event::Commit { deal, party } => self.vote(declarations, Outcome::Commit, deal, party),
+            Event::Abort { deal, party } => self.vote(declarations, Outcome::Abort, deal, party),
             Event::Claim { ledger, deal, len } => self.claim(ledger, deal, len.unwrap_or(0)),
         }
     }

@@ -6,10 +6,10 @@ use Rattle.std.specs.Str.{bytes_eq}
 use Rattle.std.proofs.lemmas.Bool.{and_parts, leb-true, not-false}
 use Rattle.std.proofs.lemmas.Slice.Eq.{bytes_eq-Decides}
 use Rattle.std.proofs.lemmas.List.Sums.{sum_by-append}
-use Rattle.plain_script.specs.Bound.{opened_of, opened_by, opens_on, opens_row, is_thing, is_ledger, is_good_row}
+use Rattle.plain_script.specs.BoundNames.{opened_of, opened_by, opens_on, opens_row, is_thing, is_ledger, is_good_row}
 use Rattle.std.proofs.lemmas.List.{append-nil}
 use Rattle.line_text.proofs.Faults.{unbroken}
-use Rattle.plain_script.specs.Rules.{rule_with_parties, declaration_rule, KeepRules}
+use Rattle.plain_script.specs.Rules.{rule_with_parties, declaration_rule, DeclareByRules}
 use Rattle.plain_script.specs.declared.declaration.Declaration.{Declaration}
 use Rattle.plain_script.specs.declared.declaration.Declaration.TheVariants.{Ledger, Open, Deal}
 use Rattle.plain_script.specs.declared.rule.ScriptRule.{ScriptRule}
@@ -55,6 +55,6 @@ small_push ds (Open ledger asset party amount) parties e small l a =
 small_push ds (Deal name members) parties e small l a = omega (arith, opened_push ds (Deal name members) l a, small l a)
 
 -- one declaration more that keeps the rules
-pub rules_push : (before ds : List Declaration) (d : Declaration) → KeepRules before ds → declaration_rule (before ++ ds) d ≡ None → KeepRules before (ds ++ d ∷ [])
+pub rules_push : (before ds : List Declaration) (d : Declaration) → DeclareByRules before ds → declaration_rule (before ++ ds) d ≡ None → DeclareByRules before (ds ++ d ∷ [])
 rules_push before [] d keep e = (ap (λ (front : List Declaration). declaration_rule front d) (sym (append-nil before)) ∙ e, tt)
 rules_push before (first ∷ ds) d keep e = (keep.0, rules_push (before ++ first ∷ []) ds d keep.1 (ap (λ (front : List Declaration). declaration_rule front d) (append_assoc before (first ∷ []) ds) ∙ e))

@@ -7,7 +7,7 @@ use Rattle.std.specs.BTreeSet.{insert_key}
 use Rattle.std.proofs.lemmas.List.{append-nil}
 use Rattle.std.proofs.lemmas.List.Sums.{fold-append}
 use Rattle.std.proofs.lemmas.List.Concat.{flat_map-append}
-use Rattle.plain_script.specs.Bound.{parties_of, parties_named, with_names}
+use Rattle.plain_script.specs.BoundNames.{parties_of, parties_named, with_names}
 use Rattle.plain_script.specs.declared.declaration.Declaration.{Declaration}
 
 pub parties_push : (ds : List Declaration) (d : Declaration) → with_names (parties_of ds) (parties_named d) ≡ parties_of (ds ++ d ∷ [])

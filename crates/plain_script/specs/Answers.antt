@@ -10,7 +10,7 @@ use Rattle.plain_script.specs.declared.place.Place.TheVariants.{Head, Declaratio
 use Rattle.plain_script.specs.declared.rule.ScriptRule.TheVariants.{BadLine}
 
 abbrev pub script_told : Script → ScriptTold
-script_told script = record { declarations = script.house; events = script.events }
+script_told script = record { declarations = script.declarations; events = script.events }
 
 -- the halt is this refusal, unless memory ran out
 abbrev pub Halts : {Y : Type 0} → PlainHalt → Result Y Refused → Type 0

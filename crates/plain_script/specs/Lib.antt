@@ -1,7 +1,7 @@
 pub mod Limits
 pub mod Said
 pub mod Spelling
-pub mod Bound
+pub mod BoundNames
 pub mod Rules
 pub mod RuleNames
 pub mod Reading

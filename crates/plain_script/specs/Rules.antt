@@ -4,7 +4,7 @@ use Rattle.std.specs.List.{list_any, flat_map}
 use Rattle.std.specs.Str.{bytes_eq}
 use Rattle.line_text.specs.Faults.{broken_if}
 use Rattle.plain_script.specs.Limits.{most_lines, most_ledgers, most_deals, most_members, most_parties, most_rows}
-use Rattle.plain_script.specs.Bound.{is_ledger, is_deal, is_party, is_thing, is_bound, parties_of, is_ledger_line, is_deal_line, is_opening_line, is_good_row, are_different}
+use Rattle.plain_script.specs.BoundNames.{is_ledger, is_deal, is_party, is_thing, is_bound, parties_of, is_ledger_line, is_deal_line, is_opening_line, is_good_row, are_different}
 use Rattle.plain_script.specs.RuleNames.{rule_number}
 use Rattle.plain_script.specs.declared.declaration.Declaration.{Declaration}
 use Rattle.plain_script.specs.declared.declaration.Declaration.TheVariants.{Ledger, Open, Deal}
@@ -57,9 +57,9 @@ abbrev pub declaration_rule : List Declaration → Declaration → Option Script
 declaration_rule ds d = rule_with_parties ds d (length (parties_of (ds ++ d ∷ [])))
 
 -- each of the declarations breaks no rule behind those before it
-abbrev pub KeepRules : List Declaration → List Declaration → Type 0
-KeepRules before [] = Unit {0}
-KeepRules before (d ∷ ds) = (declaration_rule before d ≡ None) × KeepRules (before ++ d ∷ []) ds
+abbrev pub DeclareByRules : List Declaration → List Declaration → Type 0
+DeclareByRules before [] = Unit {0}
+DeclareByRules before (d ∷ ds) = (declaration_rule before d ≡ None) × DeclareByRules (before ++ d ∷ []) ds
 
 -- the declarations with one that breaks no rule
 abbrev pub taken_unless : Option ScriptRule → List Declaration → Declaration → List Declaration

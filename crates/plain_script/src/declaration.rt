@@ -25,7 +25,7 @@ pub enum Declaration {
 
 impl Declaration {
     ghost use Rattle.std.specs.Prelude.{◌≡◌};
-    ghost use Rattle.plain_script.specs.Bound.{
+    ghost use Rattle.plain_script.specs.BoundNames.{
       is_ledger_named,
       is_deal_named,
       is_ledger_line,

@@ -4,7 +4,7 @@ ghost use Rattle.std.specs.Prelude.{◌≡◌, ◌+◌, ◌-◌, ◌^◌, ◌<�
 ghost use Rattle.line_text.specs.Lines.{Line};
 ghost use Rattle.plain_script.specs.Reading.{Refused, ScriptTold, first_refused, reading_of};
 ghost use Rattle.plain_script.specs.Positions.{IsFirstBroken, KeepRules};
-ghost use Rattle.plain_script.specs.Rules.{KeepRules as DeclareByRules};
+ghost use Rattle.plain_script.specs.Rules.{DeclareByRules};
 ghost use Rattle.plain_script.specs.Spelling.{Spells, ScriptLine, SpellScript, IsReadAs};
 ghost use Rattle.plain_script.specs.Said.{statement_of};
 ghost use Rattle.plain_script.specs.declared.rule.ScriptRule.{ScriptRule};

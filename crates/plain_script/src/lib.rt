@@ -5,7 +5,7 @@
 //!
 //! - `declaration`, `event`, `statement`, `numbered`: what a line says.
 //! - `keyword`, `first_word`, `saying`: reading it from the line's words.
-//! - `house`: what the lines so far have declared, and the rules of a declaration.
+//! - `declarations`: what the lines so far have declared, and the rules of a declaration.
 //! - `place`, `reader`: the lines so far, and the rule that the next one breaks.
 //! - `script`: a whole script.
 //! - `rule`, `refused_line`, `halt`: why a script is refused, and how that is told.
@@ -13,10 +13,10 @@
 #![tactic(auto)]
 
 pub mod declaration;
+pub mod declarations;
 pub mod event;
 mod first_word;
 pub mod halt;
-pub mod house;
 pub mod keyword;
 pub mod laws;
 pub mod numbered;
@@ -29,9 +29,9 @@ pub mod script;
 pub mod statement;
 
 pub use declaration::Declaration;
+pub use declarations::Declarations;
 pub use event::Event;
 pub use halt::PlainHalt;
-pub use house::House;
 pub use numbered::Numbered;
 pub use place::Place;
 pub use refused_line::RefusedLine;

@@ -9,8 +9,8 @@ ghost use Rattle.plain_script.specs.declared.rule.ScriptRule.TheVariants.{TooMan
 ghost use Rattle.plain_script.specs.Fronts.{front_of, rule_behind, stated, stated_all, happened, front_after};
 ghost use Rattle.plain_script.specs.Reading.{to_list};
 
+use crate::declarations::Declarations;
 use crate::event::Event;
-use crate::house::House;
 use crate::numbered::Numbered;
 use crate::place::Place;
 use crate::rule::ScriptRule;
@@ -30,7 +30,7 @@ const MOST_LINES: u32 = 20000;
 pub struct Reader {
     number: u32,
     place: Place,
-    house: House,
+    declarations: Declarations,
     events: Vec<Numbered>,
 }
 
@@ -64,7 +64,7 @@ impl Model for Reader {
     ghost view = { λ r. record {
       number = r.number;
       place = r.place;
-      declarations = r.house;
+      declarations = r.declarations;
       events = r.events.items;
     } };
 }
@@ -77,7 +77,7 @@ impl Reader {
         Reader {
             number: 0,
             place: Place::Head,
-            house: House::new(alloc),
+            declarations: Declarations::new(alloc),
             events: Vec::new(alloc),
         }
     }
@@ -97,12 +97,16 @@ impl Reader {
     }
 
     /// What was declared, and what happens.
-    pub fn into_parts(self) -> (House, Vec<Numbered>)
+    pub fn into_parts(self) -> (Declarations, Vec<Numbered>)
         ensures declarations { result.0 ≡ self.declarations }
         ensures events { result.1.items ≡ self.events }
     {
-        let Reader { house, events, .. } = self;
-        (house, events)
+        let Reader {
+            declarations,
+            events,
+            ..
+        } = self;
+        (declarations, events)
     }
 
     /// Takes an event of the line, or answers the rule that it breaks.
@@ -112,7 +116,7 @@ impl Reader {
             × IfNone rule (self.new ≡ happened self.old event)
             × (self.new.number ≡ self.old.number)) }
     {
-        if !self.house.knows(&event) {
+        if !self.declarations.knows(&event) {
             return Ok(Some(ScriptRule::UnknownName));
         }
         self.events.push(Numbered {
@@ -137,7 +141,7 @@ impl Reader {
             }
             (Place::Head, Statement::House) => Ok(Some(ScriptRule::NotBuilt)),
             (Place::Declarations, Statement::Declare(declaration)) => {
-                self.house.declare(alloc, declaration)
+                self.declarations.declare(alloc, declaration)
             }
             (Place::Declarations, Statement::Begin) => {
                 self.place = Place::Events;

@@ -4,8 +4,8 @@ ghost use Rattle.std.specs.Prelude.{◌≡◌, ◌<◌, ◌≤◌, ◌-◌, ◌^
 ghost use Rattle.plain_script.specs.Reading.{reading_of};
 ghost use Rattle.plain_script.specs.Answers.{Answers, whole_of};
 
+use crate::declarations::Declarations;
 use crate::halt::PlainHalt;
-use crate::house::House;
 use crate::numbered::Numbered;
 use crate::place::Place;
 use crate::reader::Reader;
@@ -20,7 +20,7 @@ pub const MOST_BYTES: usize = 2097152;
 /// What a plain script declares, and what happens in it, in the order of its lines.
 #[derive(Drop)]
 pub struct Script {
-    pub house: House,
+    pub declarations: Declarations,
     pub events: List<Numbered>,
 }
 
@@ -37,9 +37,9 @@ fn whole(reader: Reader) -> Result<Script, PlainHalt>
             rule: ScriptRule::BadLine,
         }),
         _ => {
-            let (house, events) = reader.into_parts();
+            let (declarations, events) = reader.into_parts();
             Ok(Script {
-                house,
+                declarations,
                 events: List::from_vec(events),
             })
         }

@@ -283,7 +283,7 @@ fn a_script_tells_what_it_declares_and_what_happens(rt: HostRuntime) -> Result<(
     assert!(rt; script.house.is_ledger(&name));
     assert!(rt; !script.house.is_party(&name));
     assert_eq!(rt; script.house.parties().len(), 2);
-    let [ledger, open, deal] = script.house.declarations() else {
+    let [ledger, open, deal] = script.house.as_slice() else {
         return Err(Fail::from("three declarations"));
     };
     assert!(rt; matches!(ledger, Declaration::Ledger { .. }));

@@ -6,5 +6,5 @@ use Rattle.plain_core.proofs.rehearsal.run.Given as goal
 
 abbrev pub invariant-loop-happened : goal.invariant-loop-happened
 invariant-loop-happened l =
-    (told_behind (string_bytes l.out) (run_from l.script.house l.world (drop l.happened-index l.script.events)) ≡ run_from l.script.house (started_world l.script.house) l.script.events)
+    (told_behind (string_bytes l.out) (run_from l.script.declarations l.world (drop l.happened-index l.script.events)) ≡ run_from l.script.declarations (started_world l.script.declarations) l.script.events)
     × AreWithin l.happened-index l.world.ledgers

@@ -4,4 +4,4 @@ use Rattle.plain_core.specs.Tables.{deal_text}
 use Rattle.plain_core.proofs.tables.write_deals.Given as goal
 
 abbrev pub invariant-loop-deal : goal.invariant-loop-deal
-invariant-loop-deal l = string_bytes l.out ≡ string_bytes l.fn.out ++ flat_map (deal_text l.house l.book l.assets) (take l.deal-index l.deals)
+invariant-loop-deal l = string_bytes l.out ≡ string_bytes l.fn.out ++ flat_map (deal_text l.declarations l.book l.assets) (take l.deal-index l.deals)

@@ -4,4 +4,4 @@ use Rattle.plain_core.specs.Tables.{named_text}
 use Rattle.plain_core.proofs.tables.write_ledgers.Given as goal
 
 abbrev pub invariant-loop-name : goal.invariant-loop-name
-invariant-loop-name l = string_bytes l.out ≡ string_bytes l.fn.out ++ flat_map (named_text l.house l.ledgers) (take l.name-index l.names)
+invariant-loop-name l = string_bytes l.out ≡ string_bytes l.fn.out ++ flat_map (named_text l.declarations l.ledgers) (take l.name-index l.names)

@@ -5,8 +5,8 @@ use Rattle.plain_core.proofs.tables.write_named.Goals as goal
 
 pub returns-in-Some : goal.returns-in-Some
 returns-in-Some c =
-    appended_same c.write_ledger.result (string_bytes c.write_ledger.new.out) (string_bytes c.args.out.now) (ledger_text c.args.house.now c.in-Some.ledger.now) (named_text c.args.house.now c.args.ledgers.now c.args.name.now) (ap (found_text c.args.house.now) c.in-Some.ensures) c.write_ledger.ensures
+    appended_same c.write_ledger.result (string_bytes c.write_ledger.new.out) (string_bytes c.args.out.now) (ledger_text c.args.declarations.now c.in-Some.ledger.now) (named_text c.args.declarations.now c.args.ledgers.now c.args.name.now) (ap (found_text c.args.declarations.now) c.in-Some.ensures) c.write_ledger.ensures
 
 pub returns-in-None : goal.returns-in-None
 returns-in-None c =
-    appended_none (string_bytes c.args.out.now) (named_text c.args.house.now c.args.ledgers.now c.args.name.now) (ap (found_text c.args.house.now) c.in-None.ensures)
+    appended_none (string_bytes c.args.out.now) (named_text c.args.declarations.now c.args.ledgers.now c.args.name.now) (ap (found_text c.args.declarations.now) c.in-None.ensures)

@@ -4,4 +4,4 @@ use Rattle.plain_core.specs.Starts.{started_ledger}
 use Rattle.plain_core.proofs.world.start_ledgers.Given as goal
 
 abbrev pub invariant-loop-declaration : goal.invariant-loop-declaration
-invariant-loop-declaration l = l.ledgers.items ≡ map (started_ledger l.house) (ledger_names (take l.declaration-index l.house))
+invariant-loop-declaration l = l.ledgers.items ≡ map (started_ledger l.declarations) (ledger_names (take l.declaration-index l.declarations))

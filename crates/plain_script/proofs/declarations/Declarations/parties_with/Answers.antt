@@ -1,9 +1,9 @@
 use Rattle.std.proofs.Common.{◌≡◌, ℕ, List, [], ◌∷◌, ◌++◌, ap, ◌∙◌}
 use Rattle.std.proofs.lemmas.Result.{IfOk-weaker}
 use Rattle.std.proofs.lemmas.List.Elements.{same_from_all_zip}
-use Rattle.plain_script.specs.Bound.{parties_of, with_names}
+use Rattle.plain_script.specs.BoundNames.{parties_of, with_names}
 use Rattle.plain_script.proofs.Parties.{parties_push}
-use Rattle.plain_script.proofs.house.House.parties_with.Goals as goal
+use Rattle.plain_script.proofs.declarations.Declarations.parties_with.Goals as goal
 
 pub returns : goal.returns
 returns c =

@@ -1,9 +1,9 @@
 use Rattle.std.proofs.Common.{◌≡◌, ◌<◌, ◌^◌, List, [], ◌∷◌, ◌++◌, length, None, sym, ap, subst, ◌∙◌}
-use Rattle.plain_script.specs.Bound.{parties_of, opened_of}
-use Rattle.plain_script.specs.Rules.{rule_with_parties, KeepRules}
+use Rattle.plain_script.specs.BoundNames.{parties_of, opened_of}
+use Rattle.plain_script.specs.Rules.{rule_with_parties, DeclareByRules}
 use Rattle.plain_script.specs.declared.declaration.Declaration.{Declaration}
 use Rattle.plain_script.proofs.Opened.{small_push, rules_push}
-use Rattle.plain_script.proofs.house.House.declare.Goals as goal
+use Rattle.plain_script.proofs.declarations.Declarations.declare.Goals as goal
 
 pub invariant_of-self-2 : goal.invariant_of-self-2
 invariant_of-self-2 c =
@@ -14,6 +14,6 @@ invariant_of-self-2 c =
     let count : length (parties_of (c.self.inside.declarations.items ++ c.args.declaration ∷ [])) ≡ c.len.result = sym (c.len.ensures.len ∙ ap length parties) in
     record {
       bound = parties ∙ ap parties_of (sym grown);
-      rules = subst (KeepRules []) (sym grown) (rules_push [] c.self.inside.declarations.items c.args.declaration c.self.invariant.rules (ap (λ k. rule_with_parties c.self.inside.declarations.items c.args.declaration k) count ∙ none));
+      rules = subst (DeclareByRules []) (sym grown) (rules_push [] c.self.inside.declarations.items c.args.declaration c.self.invariant.rules (ap (λ k. rule_with_parties c.self.inside.declarations.items c.args.declaration k) count ∙ none));
       small = λ ledger asset. subst (λ (ds : List Declaration). opened_of ds ledger asset < 2 ^ 63) (sym grown) (small_push c.self.inside.declarations.items c.args.declaration c.len.result none c.self.invariant.small ledger asset);
     }

@@ -1,9 +1,9 @@
 use Rattle.std.proofs.Common.{ap, ◌∙◌}
 use Rattle.std.specs.List.{list_any}
 use Rattle.std.specs.Str.{bytes_eq}
-use Rattle.plain_script.specs.Bound.{parties_of}
+use Rattle.plain_script.specs.BoundNames.{parties_of}
 use Rattle.plain_script.proofs.NamesSame.{among_same}
-use Rattle.plain_script.proofs.house.House.is_party.Goals as goal
+use Rattle.plain_script.proofs.declarations.Declarations.is_party.Goals as goal
 
 pub returns : goal.returns
 returns c =

@@ -2,7 +2,7 @@
 
 ghost use Rattle.std.specs.Prelude.{◌≡◌, ◌+◌, ◌++◌, ◌∷◌, [], ◌-◌, ◌^◌, ◌<◌, ◌≤◌, IfOk, OnOk, OnErr, IsTrue, Ok, Some, None, length, count_by, List};
 ghost use Rattle.std.specs.List.{list_any};
-ghost use Rattle.plain_script.specs.Bound.{
+ghost use Rattle.plain_script.specs.BoundNames.{
   is_ledger,
   is_deal,
   is_party,
@@ -29,7 +29,7 @@ ghost use Rattle.plain_script.specs.Rules.{
   names_thing,
   rule_with_parties,
   taken_unless,
-  KeepRules,
+  DeclareByRules,
 };
 
 use crate::declaration::Declaration;
@@ -60,22 +60,22 @@ const GREATEST_TOTAL: u64 = 9223372036854775807;
 
 /// The declarations so far. A contract sees their list.
 #[derive(Drop)]
-pub struct House {
+pub struct Declarations {
     declarations: Vec<Declaration>,
     parties: BTreeSet<Name>,
 }
 
-impl Model for House {
+impl Model for Declarations {
     ghost use Rattle.std.specs.Prelude.{List, ◌≡◌};
     ghost use Rattle.plain_script.specs.declared.declaration.Declaration.{Declaration};
 
     ghost Value = { List Declaration };
 
-    ghost use Rattle.plain_script.specs.Kept.{IsHouse};
+    ghost use Rattle.plain_script.specs.Kept.{AreKept};
 
     ghost view = { λ h. h.declarations.items };
 
-    ghost invariant = { λ h. IsHouse h.declarations.items h.parties.keys };
+    ghost invariant = { λ h. AreKept h.declarations.items h.parties.keys };
 }
 
 /// What the rows of the ledger open of the asset.
@@ -110,21 +110,21 @@ fn are_different(alloc: Global, names: &[Name]) -> Result<bool, NoMemory>
     Ok(once.len() == names.len())
 }
 
-impl House {
+impl Declarations {
     /// No declarations.
-    pub fn new(alloc: Global) -> House
+    pub fn new(alloc: Global) -> Declarations
         ensures { result ≡ [] }
     {
-        House {
+        Declarations {
             declarations: Vec::new(alloc),
             parties: BTreeSet::new(alloc),
         }
     }
 
     /// The declarations, in the order of their lines.
-    pub fn declarations(&self) -> &[Declaration]
+    pub fn as_slice(&self) -> &[Declaration]
         ensures value { result.now ≡ self.now }
-        ensures rules { KeepRules [] self.now }
+        ensures rules { DeclareByRules [] self.now }
     {
         self.declarations.as_slice()
     }
@@ -401,7 +401,7 @@ impl House {
     /// The parties of the deal of this name, in their order; none where there is no such deal.
     pub fn members(&self, deal: &Name) -> &[Name]
         ensures value { result.now ≡ members_of self.now deal.now }
-        ensures rules { KeepRules [] self.now }
+        ensures rules { DeclareByRules [] self.now }
     {
         members(self.declarations.as_slice(), deal)
     }
