@@ -128,3 +128,15 @@ fn a_line_is_read_word_by_word(rt: HostRuntime) {
     assert_eq!(rt; words.amount(), Some(100));
     assert!(rt; words.is_done());
 }
+
+#[test]
+fn ids_are_64_small_digits(rt: HostRuntime) {
+    let word = b"00ff0000000000000000000000000000000000000000000000000000000000a9 00FF";
+    let mut words = Words::new(word);
+    let id = words.id().expect(&rt, "an id");
+    assert_eq!(rt; id.0[0], 0);
+    assert_eq!(rt; id.0[1], 255);
+    assert_eq!(rt; id.0[31], 169);
+    assert!(rt; words.id().is_none());
+    assert_eq!(rt; words.next_word(), Some(b"00FF".as_slice()));
+}

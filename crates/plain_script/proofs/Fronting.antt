@@ -4,9 +4,10 @@ use Rattle.std.specs.List.{list_any, flat_map}
 use Rattle.std.proofs.lemmas.List.{append-nil, length_push, length-append}
 use Rattle.std.proofs.lemmas.List.Concat.{flat_map-append}
 use Rattle.std.proofs.lemmas.List.Folds.{list_any-append}
+use Rattle.std.specs.Option.{option_to_list}
 use Rattle.line_text.specs.Lines.{Line, lines_of, onto_first_line}
 use Rattle.plain_script.specs.Rules.{place_after, declarations_of, declared_by, is_begin}
-use Rattle.plain_script.specs.Reading.{Refused, to_list, passes_over, said_by, statements_by, statements_of, events_from, events_at, line_rule, at_line, first_refused, reading_whole, reading_lines}
+use Rattle.plain_script.specs.Reading.{Refused, passes_over, said_by, statements_by, statements_of, events_from, events_at, line_rule, at_line, first_refused, reading_whole, reading_lines}
 use Rattle.plain_script.specs.Fronts.{Front, front_of, rule_behind, next_place, stated, stated_all, past_line, front_after}
 use Rattle.plain_script.specs.Answers.{whole_of}
 use Rattle.plain_script.specs.declared.numbered.Numbered.{Numbered}
@@ -82,12 +83,12 @@ statement_few n (Declare d) = omega arith
 statement_few n Begin = omega arith
 statement_few n (Happen e) = omega arith
 
-said_few : (n : ℕ) (said : Option Statement) → length (flat_map (events_at n) (to_list said)) ≤ 1
+said_few : (n : ℕ) (said : Option Statement) → length (flat_map (events_at n) (option_to_list said)) ≤ 1
 said_few n None = omega arith
 said_few n (Some s) = subst (λ k. k ≤ 1) (ap length (sym (append-nil (events_at n s)))) (statement_few n s)
 
 line_few : (n : ℕ) (line : Line) → length (flat_map (events_at n) (statements_by line)) ≤ 1
-line_few n line = elim (passes_over line) as (λ b. length (flat_map (events_at n) (cond b [] (to_list (said_by line)))) ≤ 1) [ true ↦ omega arith | false ↦ said_few n (said_by line) ]
+line_few n line = elim (passes_over line) as (λ b. length (flat_map (events_at n) (cond b [] (option_to_list (said_by line)))) ≤ 1) [ true ↦ omega arith | false ↦ said_few n (said_by line) ]
 
 pub events_few : (n : ℕ) (lines : List Line) → length (events_from n lines) ≤ length lines
 events_few n [] = omega arith

@@ -4,10 +4,11 @@ use Rattle.std.specs.List.{list_any, flat_map}
 use Rattle.std.proofs.lemmas.Bool.{and_parts, cases_Bool, cond-false}
 use Rattle.std.proofs.lemmas.List.{map-append}
 use Rattle.std.proofs.lemmas.List.Concat.{flat_map-append}
+use Rattle.std.specs.Option.{option_to_list}
 use Rattle.line_text.specs.Lines.{Line, is_passed_over}
 use Rattle.plain_script.specs.Said.{statement_of}
 use Rattle.plain_script.specs.Rules.{declarations_of, declared_by, is_begin, lesser_rule, statement_rule, said_rule}
-use Rattle.plain_script.specs.Reading.{Refused, to_list, passes_over, said_by, statements_by, statements_of, events_from, events_at, line_rule, at_line, first_refused}
+use Rattle.plain_script.specs.Reading.{Refused, passes_over, said_by, statements_by, statements_of, events_from, events_at, line_rule, at_line, first_refused}
 use Rattle.plain_script.specs.Fronts.{Front, front_of, rule_behind, next_place, front_after}
 use Rattle.plain_script.specs.Spelling.{happening}
 use Rattle.plain_script.specs.declared.declaration.Declaration.{Declaration}
@@ -76,7 +77,7 @@ one_line front line e =
           let rule : said_rule front.number front.place front.declarations (said_by line) ≡ None = sym (cond-false (passes_over line) None (said_rule front.number front.place front.declarations (said_by line)) said) ∙ e in
           let s = said_none front.number front.place front.declarations (said_by line) rule in
           let parts = said_ended line.ended (statement_of line.text) s.0 s.1 in
-          inr (s.0, record { ended = parts.0; said = parts.1; one = cond-false (passes_over line) [] (to_list (said_by line)) said ∙ ap to_list s.1; kept = s.2 })
+          inr (s.0, record { ended = parts.0; said = parts.1; one = cond-false (passes_over line) [] (option_to_list (said_by line)) said ∙ ap option_to_list s.1; kept = s.2 })
     ]
 
 -- ---- the order

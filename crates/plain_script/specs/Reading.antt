@@ -2,6 +2,7 @@
 -- in it.
 use Rattle.std.specs.Prelude.{ℕ, ◌+◌, Bool, true, false, ◌&&◌, ◌||◌, if◌then◌else◌, nat_lt, List, [], ◌∷◌, ◌++◌, length, Option, Some, None, Result, Ok, Err}
 use Rattle.std.specs.List.{list_any, flat_map}
+use Rattle.std.specs.Option.{option_to_list}
 use Rattle.line_text.specs.Lines.{Line, lines_of, is_passed_over}
 use Rattle.plain_script.specs.Said.{statement_of}
 use Rattle.plain_script.specs.Rules.{place_after, declarations_of, said_rule, is_begin}
@@ -26,13 +27,9 @@ passes_over line = line.ended && is_passed_over line.text
 abbrev pub said_by : Line → Option Statement
 said_by line = if line.ended then statement_of line.text else None
 
-abbrev pub to_list : Option Statement → List Statement
-to_list None = []
-to_list (Some s) = s ∷ []
-
 -- the statements of a line, one or none
 abbrev pub statements_by : Line → List Statement
-statements_by line = if passes_over line then [] else to_list (said_by line)
+statements_by line = if passes_over line then [] else option_to_list (said_by line)
 
 abbrev pub statements_of : List Line → List Statement
 statements_of lines = flat_map statements_by lines

@@ -1,13 +1,13 @@
 //! What the lines so far say, line by line.
 
 ghost use Rattle.std.specs.Prelude.{◌≡◌, ◌<◌, ◌≤◌, ◌+◌, ◌-◌, ◌^◌, nat_le, [], Ok, Some, None, IfOk, IfNone, OnOk};
+ghost use Rattle.std.specs.Option.{option_to_list};
 ghost use Rattle.line_text.specs.Faults.{broken_if};
 ghost use Rattle.line_text.specs.Seen.{line_of};
 ghost use Rattle.plain_script.specs.Limits.{most_lines};
 ghost use Rattle.plain_script.specs.Rules.{statement_rule, event_rule, said_rule, lesser_rule};
 ghost use Rattle.plain_script.specs.declared.rule.ScriptRule.TheVariants.{TooMany};
 ghost use Rattle.plain_script.specs.Fronts.{front_of, rule_behind, stated, stated_all, happened, front_after};
-ghost use Rattle.plain_script.specs.Reading.{to_list};
 
 use crate::declarations::Declarations;
 use crate::event::Event;
@@ -162,7 +162,7 @@ impl Reader {
         ensures rule { IfOk result (λ rule. rule
             ≡ said_rule self.old.number self.old.place self.old.declarations said) }
         ensures stated { IfOk result (λ rule. IfNone rule (self.new
-            ≡ stated_all self.old (to_list said))) }
+            ≡ stated_all self.old (option_to_list said))) }
         ensures number { OnOk result (self.new.number ≡ self.old.number) }
     {
         let Some(statement) = said else {
