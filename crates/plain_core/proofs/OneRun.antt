@@ -1,4 +1,5 @@
 -- What holds at every moment of a run.
+use Rattle.std.specs.Option.{unwrap_or}
 use Rattle.std.proofs.Common.{◌≡◌, ℕ, ◌+◌, ◌<◌, ◌≤◌, List, [], ◌∷◌, map, length, refl, sym, ap, subst, ◌∙◌, inl, inr, arith}
 use Rattle.std.specs.Prelude.{Contains}
 use Rattle.escrow_book.specs.Reached.{IsReached}
@@ -9,7 +10,7 @@ use Rattle.plain_script.specs.declared.event.Event.{Event}
 use Rattle.plain_script.specs.declared.event.Event.TheVariants.{Register, Escrow, Transfer, Start, Commit, Abort, Claim}
 use Rattle.plain_core.specs.Openings.{rows_of, ledger_names}
 use Rattle.plain_core.specs.Starts.{started_ledger, started_world}
-use Rattle.plain_core.specs.Ledgers.{LedgerTold, World, Answer, at_ledger, number_or_zero, register_answer, escrow_answer, transfer_answer, step_of}
+use Rattle.plain_core.specs.Ledgers.{LedgerTold, World, Answer, at_ledger, register_answer, escrow_answer, transfer_answer, step_of}
 use Rattle.plain_core.specs.declared.reply.Reply.{Reply}
 use Rattle.plain_core.specs.declared.reply.Reply.TheVariants.{RefusedAct, RefusedClaim}
 use Rattle.plain_core.specs.declared.act_refusal.ActRefusal.TheVariants.{UnknownDeal as UnknownAct}
@@ -38,11 +39,11 @@ ledger_goes_on name f unknown ls follows ledger there =
 pub step_goes_on : GrowthLaws → (ds : List Declaration) → DeclareByRules [] ds → (world : World) (event : Event) → GoOn world.ledgers (step_of ds world event).world.ledgers
 step_goes_on laws ds keep world (Register ledger deal party) = ledger_goes_on ledger (register_answer (members_of ds deal) deal party) (RefusedAct UnknownAct) world.ledgers (λ l. (register_quiet laws ds deal party keep l).follows)
 step_goes_on laws ds keep world (Escrow ledger deal party asset amount) = ledger_goes_on ledger (escrow_answer deal party asset amount) (RefusedAct UnknownAct) world.ledgers (λ l. (escrow_quiet laws deal party asset amount l).follows)
-step_goes_on laws ds keep world (Transfer ledger deal from turn to asset amount) = ledger_goes_on ledger (transfer_answer deal from (number_or_zero turn) to asset amount) (RefusedAct UnknownAct) world.ledgers (λ l. (transfer_quiet laws deal from (number_or_zero turn) to asset amount l).follows)
+step_goes_on laws ds keep world (Transfer ledger deal from turn to asset amount) = ledger_goes_on ledger (transfer_answer deal from (unwrap_or turn 0) to asset amount) (RefusedAct UnknownAct) world.ledgers (λ l. (transfer_quiet laws deal from (unwrap_or turn 0) to asset amount l).follows)
 step_goes_on laws ds keep world (Start deal party) = ledgers_stay world.ledgers
 step_goes_on laws ds keep world (Commit deal party) = ledgers_stay world.ledgers
 step_goes_on laws ds keep world (Abort deal party) = ledgers_stay world.ledgers
-step_goes_on laws ds keep world (Claim ledger deal len) = ledger_goes_on ledger (claim_at world deal (number_or_zero len)) (RefusedClaim UnknownDeal) world.ledgers (claim_follows laws world.log.entries deal (number_or_zero len))
+step_goes_on laws ds keep world (Claim ledger deal len) = ledger_goes_on ledger (claim_at world deal (unwrap_or len 0)) (RefusedClaim UnknownDeal) world.ledgers (claim_follows laws world.log.entries deal (unwrap_or len 0))
 
 -- ---- every ledger has a good history
 

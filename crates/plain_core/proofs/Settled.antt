@@ -1,4 +1,5 @@
 -- Each settlement of a run is that of a claim.
+use Rattle.std.specs.Option.{unwrap_or}
 use Rattle.std.proofs.Common.{◌≡◌, ℕ, ◌≤◌, false, Option, Some, None, List, [], length, refl, sym, ap, subst, ◌∙◌, inl, inr, ◌⊎◌}
 use Rattle.std.specs.Prelude.{find, Contains}
 use Rattle.std.proofs.lemmas.Bool.{ltb-false}
@@ -14,7 +15,7 @@ use Rattle.plain_script.specs.declared.declaration.Declaration.{Declaration}
 use Rattle.plain_script.specs.declared.event.Event.{Event}
 use Rattle.plain_script.specs.declared.event.Event.TheVariants.{Register, Escrow, Transfer, Start, Commit, Abort, Claim}
 use Rattle.plain_core.specs.Ids.{plain_id}
-use Rattle.plain_core.specs.Ledgers.{LedgerTold, World, Step, Answer, act_at, at_ledger, number_or_zero, register_answer, escrow_answer, transfer_answer, step_of}
+use Rattle.plain_core.specs.Ledgers.{LedgerTold, World, Step, Answer, act_at, at_ledger, register_answer, escrow_answer, transfer_answer, step_of}
 use Rattle.plain_core.specs.Reports.{exceeds, is_out_of_range}
 use Rattle.plain_core.specs.OneLog.{Moment, moment_at, IsSettlement}
 use Rattle.plain_core.specs.declared.reply.Reply.{Reply}
@@ -154,7 +155,7 @@ claimed law ds world line name deal len shown reached = record { settlements = s
 pub settled_by : GrowthLaws → PayLaw → (ds : List Declaration) → DeclareByRules [] ds → (world : World) (line : ℕ) (event : Event) → is_out_of_range world event ≡ false → ((ledger : LedgerTold) → Contains world.ledgers ledger → IsReached ledger.history) → IsSettledBy (moment_at ds world (record { line = line; event = event }))
 settled_by laws law ds keep world line (Register ledger deal party) range reached = quiet_act ds world line (Register ledger deal party) ledger (register_answer (members_of ds deal) deal party) refl (register_quiet laws ds deal party keep)
 settled_by laws law ds keep world line (Escrow ledger deal party asset amount) range reached = quiet_act ds world line (Escrow ledger deal party asset amount) ledger (escrow_answer deal party asset amount) refl (escrow_quiet laws deal party asset amount)
-settled_by laws law ds keep world line (Transfer ledger deal from turn to asset amount) range reached = quiet_act ds world line (Transfer ledger deal from turn to asset amount) ledger (transfer_answer deal from (number_or_zero turn) to asset amount) refl (transfer_quiet laws deal from (number_or_zero turn) to asset amount)
+settled_by laws law ds keep world line (Transfer ledger deal from turn to asset amount) range reached = quiet_act ds world line (Transfer ledger deal from turn to asset amount) ledger (transfer_answer deal from (unwrap_or turn 0) to asset amount) refl (transfer_quiet laws deal from (unwrap_or turn 0) to asset amount)
 settled_by laws law ds keep world line (Start deal party) range reached = logged ds world line (Start deal party) refl (start_logged (members_of ds deal) deal party world.log).replies
 settled_by laws law ds keep world line (Commit deal party) range reached = logged ds world line (Commit deal party) refl (vote_logged (members_of ds deal) ToCommit deal party world.log).replies
 settled_by laws law ds keep world line (Abort deal party) range reached = logged ds world line (Abort deal party) refl (vote_logged (members_of ds deal) ToAbort deal party world.log).replies

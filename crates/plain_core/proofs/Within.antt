@@ -1,4 +1,5 @@
 -- An event adds at most one entry to a ledger.
+use Rattle.std.specs.Option.{unwrap_or}
 use Rattle.std.proofs.Common.{ℕ, ◌+◌, ◌≤◌, Bool, true, false, cond, Option, Some, None, List, [], ◌∷◌, map, take, arith}
 use Rattle.std.specs.Str.{bytes_eq}
 use Rattle.dh_base.specs.declared.id.Id.{Id}
@@ -16,7 +17,7 @@ use Rattle.plain_script.specs.declared.event.Event.TheVariants.{Register, Escrow
 use Rattle.plain_core.specs.Ids.{plain_id}
 use Rattle.plain_core.specs.Given.{AreWithin}
 use Rattle.plain_core.specs.Starts.{started_ledger}
-use Rattle.plain_core.specs.Ledgers.{LedgerTold, World, Answer, is_member, accepts, refuses, act_answer, register_answer, escrow_answer, transfer_answer, claim_decided, claim_found, claim_answer, first_answers, behind, at_ledger, number_or_zero, step_of}
+use Rattle.plain_core.specs.Ledgers.{LedgerTold, World, Answer, is_member, accepts, refuses, act_answer, register_answer, escrow_answer, transfer_answer, claim_decided, claim_found, claim_answer, first_answers, behind, at_ledger, step_of}
 use Rattle.plain_core.specs.declared.reply.Reply.{Reply}
 use Rattle.plain_core.specs.declared.reply.Reply.TheVariants.{RefusedAct, RefusedClaim}
 use Rattle.plain_core.specs.declared.act_refusal.ActRefusal.TheVariants.{NotAParty, UnknownDeal as UnknownAct}
@@ -66,11 +67,11 @@ at_within n name f unknown (l ∷ ls) adds h = by (bytes_eq name l.name) (at_wit
 pub step_within : (ds : List Declaration) (world : World) (event : Event) (n : ℕ) → AreWithin n world.ledgers → AreWithin (n + 1) (step_of ds world event).world.ledgers
 step_within ds world (Register ledger deal party) n h = at_within n ledger (register_answer (members_of ds deal) deal party) (RefusedAct UnknownAct) world.ledgers (register_adds (members_of ds deal) deal party) h
 step_within ds world (Escrow ledger deal party asset amount) n h = at_within n ledger (escrow_answer deal party asset amount) (RefusedAct UnknownAct) world.ledgers (λ l. act_adds l party party _ _) h
-step_within ds world (Transfer ledger deal from turn to asset amount) n h = at_within n ledger (transfer_answer deal from (number_or_zero turn) to asset amount) (RefusedAct UnknownAct) world.ledgers (λ l. act_adds l from to _ _) h
+step_within ds world (Transfer ledger deal from turn to asset amount) n h = at_within n ledger (transfer_answer deal from (unwrap_or turn 0) to asset amount) (RefusedAct UnknownAct) world.ledgers (λ l. act_adds l from to _ _) h
 step_within ds world (Start deal party) n h = within_more n (n + 1) world.ledgers (omega arith) h
 step_within ds world (Commit deal party) n h = within_more n (n + 1) world.ledgers (omega arith) h
 step_within ds world (Abort deal party) n h = within_more n (n + 1) world.ledgers (omega arith) h
-step_within ds world (Claim ledger deal len) n h = at_within n ledger (claim_answer world.log.entries deal (number_or_zero len)) (RefusedClaim UnknownDeal) world.ledgers (claim_adds world.log.entries deal (number_or_zero len)) h
+step_within ds world (Claim ledger deal len) n h = at_within n ledger (claim_answer world.log.entries deal (unwrap_or len 0)) (RefusedClaim UnknownDeal) world.ledgers (claim_adds world.log.entries deal (unwrap_or len 0)) h
 
 pub start_within : (ds : List Declaration) (names : List (List ℕ)) → AreWithin 0 (map (started_ledger ds) names)
 start_within ds [] = tt

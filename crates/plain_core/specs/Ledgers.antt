@@ -1,6 +1,7 @@
 -- The one-log ledger: each ledger's step on each event, where all ledgers read one log.
 use Rattle.std.specs.Prelude.{ℕ, ◌+◌, Bool, if◌then◌else◌, List, [], ◌∷◌, ◌++◌, length, map, take, position, Option, Some, None, Result, Ok, Err}
 use Rattle.std.specs.List.{list_any}
+use Rattle.std.specs.Option.{unwrap_or}
 use Rattle.std.specs.Str.{bytes_eq}
 use Rattle.dh_base.specs.declared.id.Id.{Id}
 use Rattle.dh_base.specs.declared.outcome.Outcome.{Outcome}
@@ -183,10 +184,6 @@ with_ledgers world step = record { reply = step.reply; world = record { ledgers 
 abbrev pub with_log : World → LogAnswer → Step
 with_log world answer = record { reply = answer.reply; world = record { ledgers = world.ledgers; log = answer.log } }
 
-abbrev pub number_or_zero : Option ℕ → ℕ
-number_or_zero None = 0
-number_or_zero (Some n) = n
-
 abbrev pub act_at : World → List ℕ → (LedgerTold → Answer) → Step
 act_at world name answer = with_ledgers world (at_ledger name answer (RefusedAct act.UnknownDeal) world.ledgers)
 
@@ -194,9 +191,9 @@ act_at world name answer = with_ledgers world (at_ledger name answer (RefusedAct
 abbrev pub step_of : List Declaration → World → Event → Step
 step_of ds world (Register ledger deal party) = act_at world ledger (register_answer (members_of ds deal) deal party)
 step_of ds world (Escrow ledger deal party asset amount) = act_at world ledger (escrow_answer deal party asset amount)
-step_of ds world (Transfer ledger deal from turn to asset amount) = act_at world ledger (transfer_answer deal from (number_or_zero turn) to asset amount)
+step_of ds world (Transfer ledger deal from turn to asset amount) = act_at world ledger (transfer_answer deal from (unwrap_or turn 0) to asset amount)
 step_of ds world (Start deal party) = with_log world (start_answer (members_of ds deal) deal party world.log)
 step_of ds world (Commit deal party) = with_log world (vote_answer (members_of ds deal) ToCommit deal party world.log)
 step_of ds world (Abort deal party) = with_log world (vote_answer (members_of ds deal) ToAbort deal party world.log)
 step_of ds world (Claim ledger deal len) =
-    with_ledgers world (at_ledger ledger (claim_answer world.log.entries deal (number_or_zero len)) (RefusedClaim claim.UnknownDeal) world.ledgers)
+    with_ledgers world (at_ledger ledger (claim_answer world.log.entries deal (unwrap_or len 0)) (RefusedClaim claim.UnknownDeal) world.ledgers)

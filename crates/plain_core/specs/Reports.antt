@@ -1,5 +1,5 @@
 -- What a plain script reports: a line for each event, and then the final tables.
-use Rattle.std.specs.Prelude.{ℕ, Bool, true, false, nat_lt, if◌then◌else◌, List, [], ◌∷◌, ◌++◌, length, Option, Some, None, Result, Ok, Err}
+use Rattle.std.specs.Prelude.{ℕ, Bool, true, false, nat_lt, if◌then◌else◌, List, [], ◌∷◌, ◌++◌, length, Option, Some, None, is_none, Result, Ok, Err}
 use Rattle.std.specs.Fmt.{decimal}
 use Rattle.plain_script.specs.Reading.{Refused, ScriptTold, reading_of}
 use Rattle.plain_script.specs.RuleNames.{answered}
@@ -18,10 +18,6 @@ use Rattle.plain_core.specs.declared.reply.Reply.{Reply}
 abbrev pub exceeds : ℕ → Option ℕ → Bool
 exceeds most None = true
 exceeds most (Some n) = nat_lt most n
-
-abbrev pub is_none : Option ℕ → Bool
-is_none None = true
-is_none (Some n) = false
 
 abbrev pub is_out_of_range : World → Event → Bool
 is_out_of_range world (Register ledger deal party) = false
