@@ -27,7 +27,7 @@ use crate::reach::MOST_PARTIES;
 use crate::saying::said_by;
 use crate::step::Step;
 use crate::step_list::{is_on, ledger_count, total};
-use dh_base::{Id, Name, NoMemory};
+use dh_base::{GREATEST_AMOUNT, Id, Name, NoMemory};
 use line_text::TextLine;
 use std::alloc::Global;
 use std::marker::Model;
@@ -40,9 +40,6 @@ const MOST_STEPS: usize = 64;
 
 /// The most ledgers that the steps of a deal name.
 const MOST_LEDGERS: usize = 8;
-
-/// The most that the steps move of an asset on a ledger, 2^63 - 1.
-const GREATEST_SUM: u128 = 9223372036854775807;
 
 /// What the lines of a deal's text come to so far. None of them has a fault.
 #[derive(Drop)]
@@ -82,7 +79,7 @@ fn exceeds(steps: &[Step], ledger: &Name, asset: &Name, amount: u64) -> bool
     ensures { result ≡ nat_lt (2 ^ 63 - 1) (total_of steps.now ledger.now asset.now + amount) }
 {
     let sum = u128::from(total(steps, ledger, asset)) + u128::from(amount);
-    sum > GREATEST_SUM
+    sum > u128::from(GREATEST_AMOUNT)
 }
 
 /// The step with the indices of its parties.

@@ -3,8 +3,7 @@
 ghost use Rattle.std.specs.Prelude.{◌≡◌, ◌+◌, ◌*◌, ◌<◌, ◌↔◌, ℕ, IsTrue, length, slice_index, option_map};
 ghost use Rattle.line_text.specs.Numbers.{number_of, in_64_bits, in_32_bits, amount_of};
 
-/// The greatest amount, 2^63 - 1.
-const GREATEST_AMOUNT: u64 = 9223372036854775807;
+use dh_base::GREATEST_AMOUNT;
 
 /// A number, as far as 64 bits tell it.
 #[derive(Clone, Copy, Debug, PartialEq, Eq)]

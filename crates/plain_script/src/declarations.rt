@@ -35,7 +35,7 @@ ghost use Rattle.plain_script.specs.Rules.{
 use crate::declaration::Declaration;
 use crate::event::Event;
 use crate::rule::ScriptRule;
-use dh_base::{Name, NoMemory};
+use dh_base::{GREATEST_AMOUNT, Name, NoMemory};
 use std::alloc::Global;
 use std::collections::BTreeSet;
 use std::marker::Model;
@@ -54,9 +54,6 @@ const MOST_PARTIES: usize = 256;
 
 /// The most opening rows, of a ledger and of a script.
 const MOST_ROWS: usize = 1024;
-
-/// The greatest total of an asset's opening rows on one ledger, 2^63 - 1.
-const GREATEST_TOTAL: u64 = 9223372036854775807;
 
 /// The declarations so far. A contract sees their list.
 #[derive(Drop)]
@@ -232,7 +229,7 @@ impl Declarations {
         if self.has_row(ledger, asset, party) {
             return false;
         }
-        amount <= GREATEST_TOTAL - self.opened(ledger, asset)
+        amount <= GREATEST_AMOUNT - self.opened(ledger, asset)
     }
 
     /// The names of the parties with those of one more declaration.
