@@ -280,10 +280,10 @@ fn a_script_tells_what_it_declares_and_what_happens(rt: HostRuntime) -> Result<(
         b"# two ledgers\nplain\nledger a\nopen a coin p 7\ndeal d p q\nbegin\n\nstart d p\n#\nclaim a d 4294967296\n";
     let script = read_script(rt.alloc(), text.as_slice()).map_err(|_| "refused")?;
     let name = Name::from_bytes(b"a")?;
-    assert!(rt; script.house.is_ledger(&name));
-    assert!(rt; !script.house.is_party(&name));
-    assert_eq!(rt; script.house.parties().len(), 2);
-    let [ledger, open, deal] = script.house.as_slice() else {
+    assert!(rt; script.declarations.is_ledger(&name));
+    assert!(rt; !script.declarations.is_party(&name));
+    assert_eq!(rt; script.declarations.parties().len(), 2);
+    let [ledger, open, deal] = script.declarations.as_slice() else {
         return Err(Fail::from("three declarations"));
     };
     assert!(rt; matches!(ledger, Declaration::Ledger { .. }));
