@@ -8,6 +8,6 @@ use Rattle.plain_core.proofs.openings.start_book.Goals as goal
 pub start-requires : goal.start-requires
 start-requires c =
     let rows : c.deref.result.now ≡ rows_of c.args.declarations.now c.args.ledger.now =
-    c.deref.ensures.value ∙ (c.in_ok-rows.ensures ∙ ap (λ (ds : List Declaration). rows_of ds c.args.ledger.now) c.declarations.ensures.value)
+    c.deref.ensures.value ∙ (c.in_ok-rows.ensures ∙ ap (λ (ds : List Declaration). rows_of ds c.args.ledger.now) c.as_slice.ensures.value)
     in
-    ap is_good_opening rows ∙ good_opening c.args.declarations.now c.args.ledger.now c.declarations.ensures.rules
+    ap is_good_opening rows ∙ good_opening c.args.declarations.now c.args.ledger.now c.as_slice.ensures.rules
