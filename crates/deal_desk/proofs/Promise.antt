@@ -2,6 +2,7 @@
 use Rattle.std.proofs.Common.{◌≡◌, ℕ, List, [], Option, Some, None, IfSome, ◌∙◌, arith}
 use Rattle.dh_base.specs.Outside.{Seen}
 use Rattle.deal_desk.specs.Commands.{command_of}
+use Rattle.deal_desk.specs.Answers.{IsTheAnswer}
 use Rattle.deal_desk.specs.Endings.{status_of, Wrote, WroteAnswer, IsCarriedOut, KeepsOneLog}
 use Rattle.deal_desk.specs.declared.command.Command.{Command}
 use Rattle.deal_desk.specs.declared.command.Command.TheVariants.{Clear, Rehearse}
@@ -13,9 +14,9 @@ use Rattle.plain_core.proofs.Told.{one_log}
 abbrev Reports : Option (List ℕ) → Option (List ℕ) → Seen → Seen → Type 0
 Reports left left_after output output_after = IfSome left (λ script. (left_after ≡ Some []) × WroteAnswer Rehearse script Done output output_after)
 
-reported_keeps : (left left_after : Option (List ℕ)) (output output_after : Seen) → Reports left left_after output output_after → IfSome left (λ script. (report : List ℕ) × Wrote output report output_after × TellsOneLog script report)
+reported_keeps : (left left_after : Option (List ℕ)) (output output_after : Seen) → Reports left left_after output output_after → IfSome left (λ script. (report : List ℕ) × IsTheAnswer Rehearse script Done report × Wrote output report output_after × TellsOneLog script report)
 reported_keeps None left_after output output_after ended = tt
-reported_keeps (Some script) left_after output output_after ended = (ended.1.0, ended.1.2, one_log script ended.1.0 ended.1.1.0)
+reported_keeps (Some script) left_after output output_after ended = (ended.1.0, ended.1.1, ended.1.2, one_log script ended.1.0 ended.1.1.0)
 
 rehearsed_keeps : (ending : Ending) (status : ℕ) (words : List (List ℕ)) (input input_after : Seen) (output output_after : Seen) → status ≡ status_of ending → IsCarriedOut Rehearse ending input input_after output output_after → KeepsOneLog status words input output output_after
 rehearsed_keeps Done status words input input_after output output_after is ended = λ none asked. reported_keeps input.left input_after.left output output_after ended

@@ -114,4 +114,5 @@ abbrev pub KeepsOneLog : ℕ → List (List ℕ) → Seen → (before after : Se
 KeepsOneLog status words input before after =
     status ≡ 0 → command_of words ≡ Some Rehearse →
     IfSome input.left (λ script.
-    (report : List ℕ) × Wrote before report after × TellsOneLog script report)
+    (report : List ℕ) × IsTheAnswer Rehearse script Done report
+    × Wrote before report after × TellsOneLog script report)

@@ -14,7 +14,7 @@ use Rattle.escrow_book.specs.Conserved.{named, are_in}
 use Rattle.escrow_book.proofs.Sums.{sum_same, sum_same_all, sum_zero, sum_swap}
 use Rattle.escrow_book.proofs.Same.{id_from_same, same_id-swap}
 
-nobody : (accounts : List Id) (q : Id) (n : ℕ) → is_in q accounts ≡ false → sum_by (λ p. cond (same_id p q) n 0) accounts ≡ 0
+pub nobody : (accounts : List Id) (q : Id) (n : ℕ) → is_in q accounts ≡ false → sum_by (λ p. cond (same_id p q) n 0) accounts ≡ 0
 nobody [] q n out = refl
 nobody (p ∷ accounts) q n out =
     let parts = or_parts (same_id q p) (is_in q accounts) out in

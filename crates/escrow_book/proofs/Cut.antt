@@ -4,9 +4,10 @@ use Rattle.std.specs.Str.{bytes_eq}
 use Rattle.dh_base.specs.declared.id.Id.{Id}
 use Rattle.escrow_book.specs.declared.change.Change.{Change}
 use Rattle.escrow_book.specs.declared.change.Change.TheVariants.{Registered, Escrowed, Transferred, Paid, Settled}
-use Rattle.escrow_book.specs.Opening.{Row, same_id}
+use Rattle.escrow_book.specs.Opening.{same_id}
+use Rattle.escrow_book.specs.Base.{Base}
 use Rattle.escrow_book.specs.History.{History, with_change, given, deal_came, deal_went, if_commit_of, paid_from, put_up, free_came, free_went, free_of}
-use Rattle.escrow_book.specs.Reached.{IsAccepted, IsReached}
+use Rattle.escrow_book.specs.Reached.{IsAccepted, IsGrown}
 use Rattle.escrow_book.specs.Conserved.{NothingIsCut}
 use Rattle.escrow_book.proofs.Same.{at_same_pair, at_same_three}
 use Rattle.escrow_book.proofs.Accepting.{escrow_accepted, transfer_accepted, pay_accepted}
@@ -46,6 +47,6 @@ cut_push h c a before = record {
   outside = λ p x. omega (arith, free_came_push h c p x a, free_went_push h c p x, spends_within h c p x a (before.outside p x));
 }
 
-pub nothing_is_cut : (rows : List Row) (changes : List Change) → IsReached (history rows changes) → NothingIsCut (history rows changes)
+pub nothing_is_cut : (rows : Base) (changes : List Change) → IsGrown (history rows changes) → NothingIsCut (history rows changes)
 nothing_is_cut rows changes r =
     by_steps rows (λ front. NothingIsCut (history rows front)) (λ front c reached before a. cut_push (history rows front) c a before) changes (record { in_deals = λ d p x. omega arith; outside = λ p x. omega arith }) r

@@ -53,7 +53,7 @@ all_in [] accounts h = refl
 all_in (p ∷ few) accounts h =
     and_from (is_in p accounts) (are_in few accounts) (h p (or_left (same_id p p) (is_in p few) (same_id-self p))) (all_in few accounts (λ q e. h q (or_right (same_id q p) (is_in q few) e)))
 
-rows_in : (rows : List Row) (accounts : List Id) → ((q : Id) → is_in q (map (λ (row : Row). row.0) rows) ≡ true → is_in q accounts ≡ true) → list_all (λ row. is_in row.0 accounts) rows ≡ true
+pub rows_in : (rows : List Row) (accounts : List Id) → ((q : Id) → is_in q (map (λ (row : Row). row.0) rows) ≡ true → is_in q accounts ≡ true) → list_all (λ row. is_in row.0 accounts) rows ≡ true
 rows_in [] accounts h = refl
 rows_in (row ∷ rows) accounts h =
     and_from (is_in row.0 accounts) (list_all (λ r. is_in r.0 accounts) rows) (h row.0 (or_left (same_id row.0 row.0) (is_in row.0 (map (λ (r : Row). r.0) rows)) (same_id-self row.0))) (rows_in rows accounts (λ q e. h q (or_right (same_id q row.0) (is_in q (map (λ (r : Row). r.0) rows)) e)))
@@ -84,6 +84,23 @@ everybody_is_all h p =
 
 pub everybody_has : (h : History) (p : Id) → is_in p (everybody h p) ≡ true
 everybody_has h p = once_keeps (names h p) p (or_left (same_id p p) (is_in p (map (λ (row : Row). row.0) h.opening ++ flat_map named h.changes)) (same_id-self p))
+
+-- these accounts and each that the history names
+abbrev pub everyone : History → List Id → List Id
+everyone h more = once (more ++ (map (λ (row : Row). row.0) h.opening ++ flat_map named h.changes))
+
+pub everyone_is_all : (h : History) (more : List Id) → AreItsAccounts h (everyone h more)
+everyone_is_all h more =
+    let rows : List Id = map (λ (row : Row). row.0) h.opening in
+    let changes : List Id = flat_map named h.changes in
+    record {
+      different = once_different (more ++ (rows ++ changes));
+      of_rows = rows_in h.opening (everyone h more) (λ q e. once_keeps (more ++ (rows ++ changes)) q (is_in-append q more (rows ++ changes) ∙ or_right (is_in q more) (is_in q (rows ++ changes)) (is_in-append q rows changes ∙ or_left (is_in q rows) (is_in q changes) e)));
+      of_changes = changes_in h.changes (everyone h more) (λ q e. once_keeps (more ++ (rows ++ changes)) q (is_in-append q more (rows ++ changes) ∙ or_right (is_in q more) (is_in q (rows ++ changes)) (is_in-append q rows changes ∙ or_right (is_in q rows) (is_in q changes) e)));
+    }
+
+pub everyone_has : (h : History) (more : List Id) (q : Id) → is_in q more ≡ true → is_in q (everyone h more) ≡ true
+everyone_has h more q e = once_keeps (more ++ (map (λ (row : Row). row.0) h.opening ++ flat_map named h.changes)) q (is_in-append q more (map (λ (row : Row). row.0) h.opening ++ flat_map named h.changes) ∙ or_left (is_in q more) (is_in q (map (λ (row : Row). row.0) h.opening ++ flat_map named h.changes)) e)
 
 -- one account has no more than all together
 pub one_within_all : (f : Id → ℕ) (accounts : List Id) (q : Id) → is_in q accounts ≡ true → f q ≤ sum_by f accounts

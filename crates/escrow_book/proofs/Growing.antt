@@ -3,7 +3,8 @@ use Rattle.std.proofs.Common.{◌≡◌, ℕ, ◌<◌, None, List, subst}
 use Rattle.dh_base.specs.declared.id.Id.{Id}
 use Rattle.escrow_book.specs.declared.change.Change.TheVariants.{Transferred}
 use Rattle.escrow_book.specs.History.{History, with_change, moves_of}
-use Rattle.escrow_book.specs.Reached.{IsReached, greatest_turn}
+use Rattle.escrow_book.specs.Base.{greatest_turn}
+use Rattle.escrow_book.specs.Reached.{IsReached}
 use Rattle.escrow_book.specs.Refused.{transfer_refusal}
 use Rattle.escrow_book.proofs.Accepting.{turn_is}
 use Rattle.escrow_book.proofs.Steps.{reached_push}

@@ -13,7 +13,9 @@ use Rattle.escrow_book.specs.History.{History, with_change, with_changes, settle
 use Rattle.escrow_book.specs.Reached.{IsAccepted, AreAccepted}
 use Rattle.escrow_book.proofs.Sums.{sum_same, all_weaker}
 use Rattle.escrow_book.proofs.Same.{id_from_same, same_id-self}
-use Rattle.escrow_book.proofs.Lookups.{answer_stays, answered_where, some_value}
+use Rattle.escrow_book.specs.Base.{carried_outcome}
+use Rattle.escrow_book.specs.Kept.{ended_here}
+use Rattle.escrow_book.proofs.Lookups.{settlement_stays, answered_where, some_value, some_since}
 use Rattle.escrow_book.proofs.Accepting.{escrow_accepted, transfer_accepted}
 
 pub deal_came_push : (h : History) (c : Change) (d p : Id) (x : List ℕ) → deal_came (with_change h c) d p x ≡ deal_came h d p x + (escrowed d p x c + received d p x c)
@@ -62,15 +64,15 @@ payout_still h c d Abort p x still = if_abort_still h c d p x still
 
 -- the payouts of the deals that are settled stay
 pub paid_out_kept : (h : History) (c : Change) (p : Id) (x : List ℕ) → IsAccepted h c → sum_by (paid_out (with_change h c) p x) h.changes ≡ sum_by (paid_out h p x) h.changes
-paid_out_kept h c p x a = sum_same (paid_out (with_change h c) p x) (paid_out h p x) h.changes (all_weaker (λ s. (d : Id) → is_some (settlement d s) ≡ true → is_some (settlement_of h d) ≡ true) (λ s. paid_out (with_change h c) p x s ≡ paid_out h p x s) h.changes here (answered_where settlement h.changes))
+paid_out_kept h c p x a = sum_same (paid_out (with_change h c) p x) (paid_out h p x) h.changes (all_weaker (λ s. (d : Id) → is_some (settlement d s) ≡ true → is_some (ended_here h d) ≡ true) (λ s. paid_out (with_change h c) p x s ≡ paid_out h p x s) h.changes here (answered_where settlement h.changes))
   where
-    here : (s : Change) → ((d : Id) → is_some (settlement d s) ≡ true → is_some (settlement_of h d) ≡ true) → paid_out (with_change h c) p x s ≡ paid_out h p x s
+    here : (s : Change) → ((d : Id) → is_some (settlement d s) ≡ true → is_some (ended_here h d) ≡ true) → paid_out (with_change h c) p x s ≡ paid_out h p x s
     here (Registered d parties) answered = refl
     here (Escrowed d q y n) answered = refl
     here (Transferred d from to y n) answered = refl
     here (Paid from to y n) answered = refl
     here (Settled d outcome) answered =
-        let ended = some_value (settlement_of h d) (answered d (ap (λ b. is_some (cond b (Some outcome) None)) (same_id-self d))) in
+        let ended = some_value (settlement_of h d) (some_since (carried_outcome h.carried d) (ended_here h d) (answered d (ap (λ b. is_some (cond b (Some outcome) None)) (same_id-self d)))) in
         payout_still h c d outcome p x (settled_is_still h c d ended.0 a ended.1)
 
 pub free_came_push : (h : History) (c : Change) (p : Id) (x : List ℕ) → IsAccepted h c → free_came (with_change h c) p x ≡ free_came h p x + (paid_to p x c + paid_out (with_change h c) p x c)
@@ -81,7 +83,7 @@ free_went_push h c p x = omega (arith, sum_by_push (paid_from p x) h.changes c, 
 
 -- whatever is accepted later, a settled deal keeps its payouts
 pub payout_stays : (h : History) (more : List Change) (d : Id) (o : Outcome) (p : Id) (x : List ℕ) → AreAccepted h more → settlement_of h d ≡ Some o → payout_of (with_changes h more) d o p x ≡ payout_of h d o p x
-payout_stays h [] d o p x all ended = ap (λ (l : List Change). payout_of (record { opening = h.opening; changes = l }) d o p x) (append-nil h.changes)
+payout_stays h [] d o p x all ended = ap (λ (l : List Change). payout_of (record { opening = h.opening; carried = h.carried; changes = l }) d o p x) (append-nil h.changes)
 payout_stays h (c ∷ more) d o p x all ended =
-    let later : settlement_of (with_change h c) d ≡ Some o = answer_stays (settlement d) h.changes (c ∷ []) o ended in
-    ap (λ (l : List Change). payout_of (record { opening = h.opening; changes = l }) d o p x) (sym (append_assoc h.changes (c ∷ []) more)) ∙ (payout_stays (with_change h c) more d o p x all.1 later ∙ payout_still h c d o p x (settled_is_still h c d o all.0 ended))
+    let later : settlement_of (with_change h c) d ≡ Some o = settlement_stays h (c ∷ []) d o ended in
+    ap (λ (l : List Change). payout_of (record { opening = h.opening; carried = h.carried; changes = l }) d o p x) (sym (append_assoc h.changes (c ∷ []) more)) ∙ (payout_stays (with_change h c) more d o p x all.1 later ∙ payout_still h c d o p x (settled_is_still h c d o all.0 ended))

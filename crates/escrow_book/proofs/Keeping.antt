@@ -10,15 +10,16 @@ use Rattle.escrow_book.specs.declared.change.Change.{Change}
 use Rattle.escrow_book.specs.declared.change.Change.TheVariants.{Registered, Escrowed, Transferred, Paid, Settled}
 use Rattle.escrow_book.specs.declared.entry.Entry.{Entry}
 use Rattle.escrow_book.specs.declared.known_deal.KnownDeal.{KnownDeal}
-use Rattle.escrow_book.specs.Opening.{Row, same_id}
+use Rattle.escrow_book.specs.Opening.{same_id}
+use Rattle.escrow_book.specs.Base.{Base, find_deal}
 use Rattle.escrow_book.specs.History.{History, with_change, registration, settlement, parties_of, settlement_of}
 use Rattle.escrow_book.specs.Reached.{IsAccepted}
-use Rattle.escrow_book.specs.Kept.{find_deal, with_outcome, change_in, is_under, with_end, ended_by, AreEnded, LeavesDeals, history_kept, IsKept}
+use Rattle.escrow_book.specs.Kept.{with_outcome, change_in, ended_here, is_under, with_end, ended_by, AreEnded, LeavesDeals, history_kept, IsKept}
 use Rattle.escrow_book.proofs.Sums.{all_weaker, all_append}
 use Rattle.escrow_book.proofs.Same.{id_from_same, same_from_id, same_id-swap}
-use Rattle.escrow_book.proofs.Lookups.{first_answer_push, answer_kept}
+use Rattle.escrow_book.proofs.Lookups.{first_answer_push, answer_kept, parties_push, settlement_push, parties_kept, settlement_kept, open_here}
 use Rattle.escrow_book.proofs.Accepting.{escrow_accepted, transfer_accepted, settle_accepted}
-use Rattle.escrow_book.proofs.Steps.{reached_push}
+use Rattle.escrow_book.proofs.Steps.{grown_push}
 
 abbrev parties_in : KnownDeal → List Id
 parties_in known = known.parties
@@ -26,7 +27,7 @@ parties_in known = known.parties
 abbrev outcome_in : KnownDeal → Option Outcome
 outcome_in known = known.outcome
 
-find_push : (test : KnownDeal → Bool) (xs : List KnownDeal) (y : KnownDeal) → find test (xs ++ y ∷ []) ≡ option_or (find test xs) (cond (test y) (Some y) None)
+pub find_push : (test : KnownDeal → Bool) (xs : List KnownDeal) (y : KnownDeal) → find test (xs ++ y ∷ []) ≡ option_or (find test xs) (cond (test y) (Some y) None)
 find_push test [] y = refl
 find_push test (x ∷ xs) y = at (test x) (find_push test xs y)
   where
@@ -34,7 +35,7 @@ find_push test (x ∷ xs) y = at (test x) (find_push test xs y)
     at true e = refl
     at false e = e
 
-find_map : (test : KnownDeal → Bool) (f : KnownDeal → KnownDeal) (xs : List KnownDeal) → ((x : KnownDeal) → test (f x) ≡ test x) → find test (map f xs) ≡ option_map f (find test xs)
+pub find_map : (test : KnownDeal → Bool) (f : KnownDeal → KnownDeal) (xs : List KnownDeal) → ((x : KnownDeal) → test (f x) ≡ test x) → find test (map f xs) ≡ option_map f (find test xs)
 find_map test f [] same = refl
 find_map test f (x ∷ xs) same = ap (λ b. cond b (Some (f x)) (find test (map f xs))) (same x) ∙ at (test x) (find_map test f xs same)
   where
@@ -42,7 +43,7 @@ find_map test f (x ∷ xs) same = ap (λ b. cond b (Some (f x)) (find test (map 
     at true e = refl
     at false e = e
 
-find_passes : (test : KnownDeal → Bool) (xs : List KnownDeal) (y : KnownDeal) → find test xs ≡ Some y → test y ≡ true
+pub find_passes : (test : KnownDeal → Bool) (xs : List KnownDeal) (y : KnownDeal) → find test xs ≡ Some y → test y ≡ true
 find_passes test [] y e = absurd cc
 find_passes test (x ∷ xs) y e = at (test x) refl e (find_passes test xs y)
   where
@@ -55,18 +56,18 @@ abbrev pub entry_of : Change → Entry
 entry_of c = record { change = c; ended = None }
 
 -- the entries stand for the history with its change
-pub kept_longer : (rows : List Row) (entries : List Entry) (c : Change) → history_kept rows (entries ++ entry_of c ∷ []) ≡ with_change (history_kept rows entries) c
-kept_longer rows entries c = ap (λ (l : List Change). record { opening = rows; changes = l }) (map_push change_in entries (entry_of c))
+pub kept_longer : (rows : Base) (entries : List Entry) (c : Change) → history_kept rows (entries ++ entry_of c ∷ []) ≡ with_change (history_kept rows entries) c
+kept_longer rows entries c = ap (λ (l : List Change). record { opening = rows.0; carried = rows.1; changes = l }) (map_push change_in entries (entry_of c))
 
 new_end : (h : History) (c : Change) → IsAccepted h c → ended_by h c ≡ None
 new_end h (Registered d parties) a = refl
-new_end h (Escrowed d p x n) a = (escrow_accepted h d p x n a).«open»
-new_end h (Transferred d from to x n) a = (transfer_accepted h d from _ to x n a.0).«open»
+new_end h (Escrowed d p x n) a = open_here h d (escrow_accepted h d p x n a).«open»
+new_end h (Transferred d from to x n) a = open_here h d (transfer_accepted h d from _ to x n a.0).«open»
 new_end h (Paid from to x n) a = refl
 new_end h (Settled d outcome) a = refl
 
 -- where no deal is settled, every end stays
-ends_stay : (h : History) (c : Change) → ((d : Id) → settlement d c ≡ None) → (b : Change) → ended_by (with_change h c) b ≡ ended_by h b
+pub ends_stay : (h : History) (c : Change) → ((d : Id) → settlement d c ≡ None) → (b : Change) → ended_by (with_change h c) b ≡ ended_by h b
 ends_stay h c silent (Registered d parties) = refl
 ends_stay h c silent (Escrowed d p x n) = answer_kept (settlement d) h.changes c (silent d)
 ends_stay h c silent (Transferred d from to x n) = answer_kept (settlement d) h.changes c (silent d)
@@ -82,10 +83,10 @@ ends_grow h entries c ends a silent =
 -- a change that leaves the deals alone
 pub kept_by_others : (h : History) (entries : List Entry) (deals : List KnownDeal) (c : Change) → IsKept h entries deals → IsAccepted h c → LeavesDeals c → IsKept (with_change h c) (entries ++ entry_of c ∷ []) deals
 kept_by_others h entries deals c k a leaves = record {
-  reached = reached_push h c k.reached a;
+  grown = grown_push h c k.grown a;
   ends = ends_grow h entries c k.ends a (settles_none c leaves);
-  parties = λ d. answer_kept (registration d) h.changes c (registers_none c leaves d) ∙ k.parties d;
-  outcomes = λ d. answer_kept (settlement d) h.changes c (settles_none c leaves d) ∙ k.outcomes d;
+  parties = λ d. parties_kept h c d (registers_none c leaves d) ∙ k.parties d;
+  outcomes = λ d. settlement_kept h c d (settles_none c leaves d) ∙ k.outcomes d;
 }
   where
     registers_none : (b : Change) → LeavesDeals b → (d : Id) → registration d b ≡ None
@@ -105,10 +106,10 @@ kept_by_others h entries deals c k a leaves = record {
 -- a deal that is registered is at hand
 pub kept_by_registration : (h : History) (entries : List Entry) (deals : List KnownDeal) (d : Id) (parties : List Id) → IsKept h entries deals → IsAccepted h (Registered d parties) → IsKept (with_change h (Registered d parties)) (entries ++ entry_of (Registered d parties) ∷ []) (deals ++ record { deal = d; parties = parties; outcome = None } ∷ [])
 kept_by_registration h entries deals d parties k a = record {
-  reached = reached_push h (Registered d parties) k.reached a;
+  grown = grown_push h (Registered d parties) k.grown a;
   ends = ends_grow h entries (Registered d parties) k.ends a (λ e. refl);
-  parties = λ e. first_answer_push (registration e) h.changes (Registered d parties) ∙ (ap (λ o. option_or o (cond (same_id e d) (Some parties) None)) (k.parties e) ∙ (told (find_deal deals e) (same_id e d) ∙ ap (option_map parties_in) (sym (find_push (λ known. same_id e known.deal) deals new))));
-  outcomes = λ e. answer_kept (settlement e) h.changes (Registered d parties) refl ∙ (k.outcomes e ∙ (open_yet (find_deal deals e) (same_id e d) ∙ ap (option_and_then outcome_in) (sym (find_push (λ known. same_id e known.deal) deals new))));
+  parties = λ e. parties_push h (Registered d parties) e ∙ (ap (λ o. option_or o (cond (same_id e d) (Some parties) None)) (k.parties e) ∙ (told (find_deal deals e) (same_id e d) ∙ ap (option_map parties_in) (sym (find_push (λ known. same_id e known.deal) deals new))));
+  outcomes = λ e. settlement_kept h (Registered d parties) e refl ∙ (k.outcomes e ∙ (open_yet (find_deal deals e) (same_id e d) ∙ ap (option_and_then outcome_in) (sym (find_push (λ known. same_id e known.deal) deals new))));
 }
   where
     new : KnownDeal
@@ -141,19 +142,19 @@ ends_alike h d e o known running told at_hand = at (same_id e d) refl
         none_behind (settlement_of h e) ∙ (told ∙ sym (ap (λ b. outcome_in (cond b (record known { outcome = Some o }) known)) apart))
 
 -- what moves something in the deal has ended so
-ended_now : (h : History) (d e : Id) (o : Outcome) (before : Option Outcome) → settlement_of h d ≡ None → before ≡ settlement_of h e → cond (same_id d e) (Some o) before ≡ settlement_of (with_change h (Settled d o)) e
+ended_now : (h : History) (d e : Id) (o : Outcome) (before : Option Outcome) → ended_here h d ≡ None → before ≡ ended_here h e → cond (same_id d e) (Some o) before ≡ ended_here (with_change h (Settled d o)) e
 ended_now h d e o before running told = at (same_id d e) refl ∙ sym (first_answer_push (settlement e) h.changes (Settled d o))
   where
-    at : (b : Bool) → same_id d e ≡ b → cond b (Some o) before ≡ option_or (settlement_of h e) (cond (same_id e d) (Some o) None)
+    at : (b : Bool) → same_id d e ≡ b → cond b (Some o) before ≡ option_or (ended_here h e) (cond (same_id e d) (Some o) None)
     at true same =
-        let none : settlement_of h e ≡ None = ap (settlement_of h) (sym (id_from_same d e same)) ∙ running in
+        let none : ended_here h e ≡ None = ap (ended_here h) (sym (id_from_same d e same)) ∙ running in
         sym (ap (λ p. option_or p (cond (same_id e d) (Some o) None)) none ∙ ap (λ b. cond b (Some o) None) (same_id-swap e d ∙ same))
-    at false other = told ∙ sym (ap (λ b. option_or (settlement_of h e) (cond b (Some o) None)) (same_id-swap e d ∙ other) ∙ none_behind (settlement_of h e))
+    at false other = told ∙ sym (ap (λ b. option_or (ended_here h e) (cond b (Some o) None)) (same_id-swap e d ∙ other) ∙ none_behind (ended_here h e))
 
 abbrev ended_in : Entry → Option Outcome
 ended_in entry = entry.ended
 
-entry_ended : (h : History) (d : Id) (o : Outcome) → settlement_of h d ≡ None → (c : Change) (before : Option Outcome) → before ≡ ended_by h c → cond (is_under d c) (Some o) before ≡ ended_by (with_change h (Settled d o)) c
+entry_ended : (h : History) (d : Id) (o : Outcome) → ended_here h d ≡ None → (c : Change) (before : Option Outcome) → before ≡ ended_by h c → cond (is_under d c) (Some o) before ≡ ended_by (with_change h (Settled d o)) c
 entry_ended h d o running (Registered e parties) before told = told
 entry_ended h d o running (Escrowed e p x n) before told = ended_now h d e o before running told
 entry_ended h d o running (Transferred e from to x n) before told = ended_now h d e o before running told
@@ -164,7 +165,7 @@ with_end_is : (h : History) (o : Outcome) (entry : Entry) (b : Bool) → cond b 
 with_end_is h o entry true e = e
 with_end_is h o entry false e = e
 
-ends_noted : (h : History) (d : Id) (o : Outcome) (entries : List Entry) → settlement_of h d ≡ None → AreEnded h entries → AreEnded (with_change h (Settled d o)) (map (with_end d o) entries)
+ends_noted : (h : History) (d : Id) (o : Outcome) (entries : List Entry) → ended_here h d ≡ None → AreEnded h entries → AreEnded (with_change h (Settled d o)) (map (with_end d o) entries)
 ends_noted h d o [] running ends = tt
 ends_noted h d o (e ∷ entries) running ends = (with_end_is (with_change h (Settled d o)) o e (is_under d e.change) (entry_ended h d o running e.change e.ended ends.0), ends_noted h d o entries running ends.1)
 
@@ -180,10 +181,10 @@ same_changes d o (e ∷ entries) = at (is_under d e.change) (same_changes d o en
 -- a deal that is settled is settled at hand, and its entries have its end
 pub kept_by_settlement : (h : History) (entries : List Entry) (deals : List KnownDeal) (d : Id) (o : Outcome) → IsKept h entries deals → IsAccepted h (Settled d o) → IsKept (with_change h (Settled d o)) (map (with_end d o) (entries ++ entry_of (Settled d o) ∷ [])) (map (with_outcome d o) deals)
 kept_by_settlement h entries deals d o k a = record {
-  reached = reached_push h (Settled d o) k.reached a;
-  ends = ends_noted h d o (entries ++ entry_of (Settled d o) ∷ []) (settle_accepted h d a).«open» (all_append (λ (entry : Entry). entry.ended ≡ ended_by h entry.change) entries (entry_of (Settled d o) ∷ []) k.ends (refl, tt));
-  parties = λ e. answer_kept (registration e) h.changes (Settled d o) refl ∙ (k.parties e ∙ (same_parties (find_deal deals e) ∙ ap (option_map parties_in) (sym (found e))));
-  outcomes = λ e. first_answer_push (settlement e) h.changes (Settled d o) ∙ (ended e (find_deal deals e) refl ∙ ap (option_and_then outcome_in) (sym (found e)));
+  grown = grown_push h (Settled d o) k.grown a;
+  ends = ends_noted h d o (entries ++ entry_of (Settled d o) ∷ []) (open_here h d (settle_accepted h d a).«open») (all_append (λ (entry : Entry). entry.ended ≡ ended_by h entry.change) entries (entry_of (Settled d o) ∷ []) k.ends (refl, tt));
+  parties = λ e. parties_kept h (Settled d o) e refl ∙ (k.parties e ∙ (same_parties (find_deal deals e) ∙ ap (option_map parties_in) (sym (found e))));
+  outcomes = λ e. settlement_push h (Settled d o) e ∙ (ended e (find_deal deals e) refl ∙ ap (option_and_then outcome_in) (sym (found e)));
 }
   where
     keeps_deal : (known : KnownDeal) (e : Id) → same_id e (with_outcome d o known).deal ≡ same_id e known.deal
@@ -236,5 +237,5 @@ module _ {X : Type 0} (test : X → Bool) (change : X → X) (xs ys : List X) (i
       e ∙ (sym (set-get_or ys i z) ∙ (ap (λ b. set ys i (cond b (change (get_or ys i z)) (get_or ys i z))) fails ∙ mapped))
 
 -- the entries with the end of a deal stand for the history with its settlement
-pub kept_settled : (rows : List Row) (entries : List Entry) (d : Id) (o : Outcome) → history_kept rows (map (with_end d o) (entries ++ entry_of (Settled d o) ∷ [])) ≡ with_change (history_kept rows entries) (Settled d o)
-kept_settled rows entries d o = ap (λ (l : List Change). record { opening = rows; changes = l }) (same_changes d o (entries ++ entry_of (Settled d o) ∷ [])) ∙ kept_longer rows entries (Settled d o)
+pub kept_settled : (rows : Base) (entries : List Entry) (d : Id) (o : Outcome) → history_kept rows (map (with_end d o) (entries ++ entry_of (Settled d o) ∷ [])) ≡ with_change (history_kept rows entries) (Settled d o)
+kept_settled rows entries d o = ap (λ (l : List Change). record { opening = rows.0; carried = rows.1; changes = l }) (same_changes d o (entries ++ entry_of (Settled d o) ∷ [])) ∙ kept_longer rows entries (Settled d o)

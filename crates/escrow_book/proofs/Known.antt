@@ -6,12 +6,12 @@ use Rattle.std.proofs.lemmas.Bool.{and_parts}
 use Rattle.dh_base.specs.declared.id.Id.{Id}
 use Rattle.escrow_book.specs.declared.change.Change.{Change}
 use Rattle.escrow_book.specs.declared.change.Change.TheVariants.{Registered, Escrowed, Transferred, Paid, Settled}
-use Rattle.escrow_book.specs.Opening.{Row}
+use Rattle.escrow_book.specs.Base.{Base}
 use Rattle.escrow_book.specs.History.{History, with_change, registration, parties_of, is_in, is_among, is_party}
-use Rattle.escrow_book.specs.Reached.{IsAccepted, IsReached, are_different, are_parties}
+use Rattle.escrow_book.specs.Reached.{IsAccepted, IsGrown, are_different, are_parties}
 use Rattle.escrow_book.proofs.Sums.{all_weaker, all_append}
 use Rattle.escrow_book.proofs.Same.{id_from_same, same_id-self}
-use Rattle.escrow_book.proofs.Lookups.{answer_stays, first_answer_push}
+use Rattle.escrow_book.proofs.Lookups.{parties_stay, parties_push}
 use Rattle.escrow_book.proofs.Accepting.{escrow_accepted, transfer_accepted}
 use Rattle.escrow_book.proofs.Accounts.{IsCovered}
 use Rattle.escrow_book.proofs.Steps.{history, by_steps}
@@ -25,9 +25,9 @@ FitsDeal h (Paid from to asset n) = Unit {0}
 FitsDeal h (Settled d outcome) = Unit {0}
 
 fits_later : (h : History) (c : Change) (s : Change) → FitsDeal h s → FitsDeal (with_change h c) s
-fits_later h c (Registered d parties) f = (answer_stays (registration d) h.changes (c ∷ []) parties f.0, f.1)
-fits_later h c (Escrowed d p x n) f = (f.0, answer_stays (registration d) h.changes (c ∷ []) f.0 f.1, f.2)
-fits_later h c (Transferred d from to x n) f = (f.0, answer_stays (registration d) h.changes (c ∷ []) f.0 f.1, f.2, f.3)
+fits_later h c (Registered d parties) f = (parties_stay h (c ∷ []) d parties f.0, f.1)
+fits_later h c (Escrowed d p x n) f = (f.0, parties_stay h (c ∷ []) d f.0 f.1, f.2)
+fits_later h c (Transferred d from to x n) f = (f.0, parties_stay h (c ∷ []) d f.0 f.1, f.2, f.3)
 fits_later h c (Paid from to x n) f = tt
 fits_later h c (Settled d outcome) f = tt
 
@@ -50,20 +50,20 @@ fits_now : (h : History) (c : Change) → IsAccepted h c → FitsDeal (with_chan
 fits_now h (Registered d parties) a =
     let before : parties_of h d ≡ None = a.0 in
     let answer : registration d (Registered d parties) ≡ Some parties = ap (λ b. cond b (Some parties) None) (same_id-self d) in
-    (first_answer_push (registration d) h.changes (Registered d parties) ∙ (ap (λ o. option_or o (registration d (Registered d parties))) before ∙ answer), different_parties parties a.1)
+    (parties_push h (Registered d parties) d ∙ (ap (λ o. option_or o (registration d (Registered d parties))) before ∙ answer), different_parties parties a.1)
 fits_now h (Escrowed d p x n) a =
     let found = party_among h d p (escrow_accepted h d p x n a).party in
-    (found.0, answer_stays (registration d) h.changes (Escrowed d p x n ∷ []) found.0 found.1, found.2)
+    (found.0, parties_stay h (Escrowed d p x n ∷ []) d found.0 found.1, found.2)
 fits_now h (Transferred d from to x n) a =
     let t = transfer_accepted h d from _ to x n a.0 in
     let sender = party_among h d from t.sender in
     let receiver = party_among h d to t.receiver in
     let one : receiver.0 ≡ sender.0 = same_some receiver.0 sender.0 (sym receiver.1 ∙ sender.1) in
-    (sender.0, answer_stays (registration d) h.changes (Transferred d from to x n ∷ []) sender.0 sender.1, sender.2, subst (λ (ps : List Id). is_in to ps ≡ true) one receiver.2)
+    (sender.0, parties_stay h (Transferred d from to x n ∷ []) d sender.0 sender.1, sender.2, subst (λ (ps : List Id). is_in to ps ≡ true) one receiver.2)
 fits_now h (Paid from to x n) a = tt
 fits_now h (Settled d outcome) a = tt
 
-pub all_fit : (rows : List Row) (changes : List Change) → IsReached (history rows changes) → AllByRecursion (FitsDeal (history rows changes)) changes
+pub all_fit : (rows : Base) (changes : List Change) → IsGrown (history rows changes) → AllByRecursion (FitsDeal (history rows changes)) changes
 all_fit rows changes r =
     by_steps rows (λ front. AllByRecursion (FitsDeal (history rows front)) front) (λ front c reached before a. all_append (FitsDeal (history rows (front ++ c ∷ []))) front (c ∷ []) (all_weaker (FitsDeal (history rows front)) (FitsDeal (history rows (front ++ c ∷ []))) front (fits_later (history rows front) c) before) (fits_now (history rows front) c a, tt)) changes tt r
 

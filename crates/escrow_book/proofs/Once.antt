@@ -4,12 +4,14 @@ use Rattle.std.specs.List.{sum_by, count_by}
 use Rattle.dh_base.specs.declared.id.Id.{Id}
 use Rattle.escrow_book.specs.declared.change.Change.{Change}
 use Rattle.escrow_book.specs.declared.change.Change.TheVariants.{Registered, Escrowed, Transferred, Paid, Settled}
-use Rattle.escrow_book.specs.Opening.{Row, same_id}
-use Rattle.escrow_book.specs.History.{History, first_answer, registration, settlement, parties_of, settlement_of}
-use Rattle.escrow_book.specs.Reached.{IsAccepted, IsReached}
+use Rattle.escrow_book.specs.Opening.{same_id}
+use Rattle.escrow_book.specs.Base.{Base}
+use Rattle.escrow_book.specs.Kept.{ended_here}
+use Rattle.escrow_book.specs.History.{History, first_answer, registration, settlement}
+use Rattle.escrow_book.specs.Reached.{IsAccepted, IsGrown}
 use Rattle.escrow_book.proofs.Sums.{sum_same_all}
 use Rattle.escrow_book.proofs.Same.{id_from_same}
-use Rattle.escrow_book.proofs.Lookups.{worth, AnsweredOnce, answered_once_push}
+use Rattle.escrow_book.proofs.Lookups.{worth, AnsweredOnce, answered_once_push, open_here, new_here}
 use Rattle.escrow_book.proofs.Accepting.{settle_accepted}
 use Rattle.escrow_book.proofs.Steps.{history, by_steps}
 
@@ -21,25 +23,25 @@ free_or_silent {T} d e t before none = at (same_id d e) refl
     at true same = inl (ap before (id_from_same d e same) ∙ none)
     at false same = inr refl
 
-settled_free : (h : History) (c : Change) (d : Id) → IsAccepted h c → (settlement_of h d ≡ None) ⊎ (settlement d c ≡ None)
+settled_free : (h : History) (c : Change) (d : Id) → IsAccepted h c → (ended_here h d ≡ None) ⊎ (settlement d c ≡ None)
 settled_free h (Registered e parties) d a = inr refl
 settled_free h (Escrowed e p x n) d a = inr refl
 settled_free h (Transferred e from to x n) d a = inr refl
 settled_free h (Paid from to x n) d a = inr refl
-settled_free h (Settled e outcome) d a = free_or_silent d e outcome (settlement_of h) (settle_accepted h e a).«open»
+settled_free h (Settled e outcome) d a = free_or_silent d e outcome (ended_here h) (open_here h e (settle_accepted h e a).«open»)
 
-registered_free : (h : History) (c : Change) (d : Id) → IsAccepted h c → (parties_of h d ≡ None) ⊎ (registration d c ≡ None)
-registered_free h (Registered e parties) d a = free_or_silent d e parties (parties_of h) a.0
+registered_free : (h : History) (c : Change) (d : Id) → IsAccepted h c → (first_answer (registration d) h.changes ≡ None) ⊎ (registration d c ≡ None)
+registered_free h (Registered e parties) d a = free_or_silent d e parties (λ i. first_answer (registration i) h.changes) (new_here h e a.0)
 registered_free h (Escrowed e p x n) d a = inr refl
 registered_free h (Transferred e from to x n) d a = inr refl
 registered_free h (Paid from to x n) d a = inr refl
 registered_free h (Settled e outcome) d a = inr refl
 
-pub settled_once : (rows : List Row) (changes : List Change) (d : Id) → IsReached (history rows changes) → AnsweredOnce (settlement d) changes
+pub settled_once : (rows : Base) (changes : List Change) (d : Id) → IsGrown (history rows changes) → AnsweredOnce (settlement d) changes
 settled_once rows changes d r =
     by_steps rows (AnsweredOnce (settlement d)) (λ front c reached once a. answered_once_push (settlement d) front c (settled_free (history rows front) c d a) once) changes (λ f. refl) r
 
-pub registered_once : (rows : List Row) (changes : List Change) (d : Id) → IsReached (history rows changes) → AnsweredOnce (registration d) changes
+pub registered_once : (rows : Base) (changes : List Change) (d : Id) → IsGrown (history rows changes) → AnsweredOnce (registration d) changes
 registered_once rows changes d r =
     by_steps rows (AnsweredOnce (registration d)) (λ front c reached once a. answered_once_push (registration d) front c (registered_free (history rows front) c d a) once) changes (λ f. refl) r
 

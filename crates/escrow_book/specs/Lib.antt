@@ -1,8 +1,13 @@
 pub mod History
 pub mod Opening
+pub mod Base
 pub mod Refused
 pub mod Reached
+pub mod Part
+pub mod PartRows
+pub mod Taken
 pub mod Flow
 pub mod Conserved
 pub mod Kept
 pub mod BookFaults
+pub mod PartFaults

@@ -13,40 +13,49 @@ first_of [] = None
 first_of (refusal ∷ rest) = option_or refusal (first_of rest)
 
 abbrev pub unknown_deal : History → Id → Option BookFault
-unknown_deal h d = if is_known h d then None else Some UnknownDeal
+unknown_deal history deal = if is_known history deal then None else Some UnknownDeal
 
 abbrev pub not_a_party : History → Id → Id → Option BookFault
-not_a_party h d p = if is_party h d p then None else Some (NotAParty p)
+not_a_party history deal party =
+    if is_party history deal party then None else Some (NotAParty party)
 
 abbrev pub deal_settled : History → Id → Option BookFault
-deal_settled h d = option_map DealSettled (settlement_of h d)
+deal_settled history deal = option_map DealSettled (settlement_of history deal)
 
 -- the turn isn't the number of the party's moves so far
 abbrev pub wrong_turn : History → Id → Id → ℕ → Option BookFault
-wrong_turn h d p turn = if turn == moves_of h d p then None else Some (WrongTurn (moves_of h d p))
+wrong_turn history deal party turn =
+    if turn == moves_of history deal party
+    then None else Some (WrongTurn (moves_of history deal party))
 
 abbrev pub zero : ℕ → Option BookFault
-zero n = if n == 0 then Some ZeroOrSelf else None
+zero amount = if amount == 0 then Some ZeroOrSelf else None
 
 abbrev pub zero_or_self : ℕ → Id → Id → Option BookFault
-zero_or_self n from to = if (n == 0) || same_id from to then Some ZeroOrSelf else None
+zero_or_self amount from to = if (amount == 0) || same_id from to then Some ZeroOrSelf else None
 
 -- what is held is below the amount
 abbrev pub short : ℕ → ℕ → Option BookFault
-short held n = if nat_lt held n then Some (Short held) else None
+short held amount = if nat_lt held amount then Some (Short held) else None
 
 abbrev pub escrow_refusal : History → Id → Id → List ℕ → ℕ → Option BookFault
-escrow_refusal h d p x n = first_of (unknown_deal h d ∷ not_a_party h d p ∷ deal_settled h d ∷ zero n ∷ short (free_of h p x) n ∷ [])
+escrow_refusal history deal party asset amount =
+    first_of (unknown_deal history deal ∷ not_a_party history deal party ∷ deal_settled history deal
+    ∷ zero amount ∷ short (free_of history party asset) amount ∷ [])
 
 abbrev pub transfer_refusal : History → Id → Id → ℕ → Id → List ℕ → ℕ → Option BookFault
-transfer_refusal h d from turn to x n =
-    first_of (unknown_deal h d ∷ not_a_party h d from ∷ not_a_party h d to ∷ deal_settled h d ∷ wrong_turn h d from turn ∷ zero_or_self n from to ∷ short (if_commit_of h d from x) n ∷ [])
+transfer_refusal history deal from turn to asset amount =
+    first_of (unknown_deal history deal ∷ not_a_party history deal from
+    ∷ not_a_party history deal to ∷ deal_settled history deal
+    ∷ wrong_turn history deal from turn ∷ zero_or_self amount from to
+    ∷ short (if_commit_of history deal from asset) amount ∷ [])
 
 abbrev pub pay_refusal : History → Id → Id → List ℕ → ℕ → Option BookFault
-pay_refusal h from to x n = first_of (zero_or_self n from to ∷ short (free_of h from x) n ∷ [])
+pay_refusal history from to asset amount =
+    first_of (zero_or_self amount from to ∷ short (free_of history from asset) amount ∷ [])
 
 abbrev pub settle_refusal : History → Id → Option BookFault
-settle_refusal h d = first_of (unknown_deal h d ∷ deal_settled h d ∷ [])
+settle_refusal history deal = first_of (unknown_deal history deal ∷ deal_settled history deal ∷ [])
 
 -- The fault is the refusal. Want of memory may come in place of any answer.
 abbrev pub IsRefusal : BookFault → Option BookFault → Type 0

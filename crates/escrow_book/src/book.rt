@@ -1,18 +1,25 @@
 //! The book of one ledger.
 
-ghost use Rattle.std.specs.Prelude.{◌≡◌, ◌<◌, None, IsTrue, IfOk, OnOk, IfErr, OnErr, IsOkUnless};
+ghost use Rattle.std.specs.Prelude.{◌≡◌, ◌<◌, true, None, IsTrue, IsOk, IfOk, OnOk, IfErr, OnErr, IsOkUnless};
 ghost use Rattle.std.specs.Option.{option_copied};
 ghost use Rattle.std.specs.Result.{result_err};
-ghost use Rattle.escrow_book.specs.Opening.{is_good_opening, opening_of, row_amount};
+ghost use Rattle.escrow_book.specs.Opening.{is_good_opening, opening_of};
 ghost use Rattle.escrow_book.specs.History.{History, with_change, parties_of, settlement_of, is_known, is_party, is_in, moves_of, if_abort_of, if_commit_of, free_of};
 ghost use Rattle.escrow_book.specs.Refused.{IsRefusal, unknown_deal, not_a_party, deal_settled, wrong_turn, zero, zero_or_self, short, escrow_refusal, transfer_refusal, pay_refusal, settle_refusal};
+ghost use Rattle.escrow_book.specs.Base.{carried_commit, carried_abort, carried_moves, greatest_turn};
+ghost use Rattle.escrow_book.specs.PartRows.{no_rows, first_fault, part_of, IsPartRefusal};
+ghost use Rattle.escrow_book.specs.Flow.{carried_out};
 ghost use Rattle.escrow_book.specs.Kept.{LeavesDeals};
-ghost use Rattle.escrow_book.specs.Reached.{started, registered, are_parties, greatest_turn, IsAccepted, IsReached};
+ghost use Rattle.escrow_book.specs.Reached.{started, registered, are_parties, IsAccepted, IsGrown};
 
 use crate::change::Change;
 use crate::entry::{Entry, note_end};
 use crate::fault::BookFault;
 use crate::known_deal::{KnownDeal, find_deal, note_outcome};
+use crate::opening::row_amount;
+use crate::part::take_rows;
+use crate::part_fault::PartFault;
+use crate::row::{BookRow, HoldRow, MovesRow, find_hold, find_moves};
 use dh_base::{Id, List, Name, NoMemory, Outcome};
 use std::alloc::Global;
 use std::marker::Model;
@@ -22,6 +29,9 @@ use std::marker::Model;
 pub struct Book {
     alloc: Global,
     rows: Vec<(Id, Name, u64)>,
+    deals_before: Vec<KnownDeal>,
+    holds_before: Vec<HoldRow>,
+    moves_before: Vec<MovesRow>,
     entries: Vec<Entry>,
     deals: Vec<KnownDeal>,
 }
@@ -31,12 +41,17 @@ impl Model for Book {
 
     ghost Value = { History };
 
-    ghost use Rattle.escrow_book.specs.Kept.{history_kept, IsKept};
+    ghost use Rattle.escrow_book.specs.Kept.{base_kept, history_kept, IsKept};
 
-    ghost view = { λ book. history_kept book.rows.items book.entries.items };
+    ghost view = { λ book. history_kept
+        (base_kept book.rows.items book.deals_before.items
+        book.holds_before.items book.moves_before.items)
+        book.entries.items };
 
-    ghost invariant = { λ book.
-        IsKept (history_kept book.rows.items book.entries.items) book.entries.items book.deals.items };
+    ghost invariant = { λ book. IsKept
+        (history_kept (base_kept book.rows.items book.deals_before.items
+        book.holds_before.items book.moves_before.items)
+        book.entries.items) book.entries.items book.deals.items };
 }
 
 impl Book {
@@ -46,21 +61,41 @@ impl Book {
         ensures { IfOk result (λ book. book ≡ started rows.now) }
     {
         let rows = Vec::from_slice(alloc, rows)?;
+        let deals_before = Vec::new(alloc);
+        let holds_before = Vec::new(alloc);
+        let moves_before = Vec::new(alloc);
         let entries = Vec::new(alloc);
         let deals = Vec::new(alloc);
         Ok(Book {
             alloc,
             rows,
+            deals_before,
+            holds_before,
+            moves_before,
             entries,
             deals,
         })
     }
 
-    /// The history is one that accepted changes lead to, so the laws of such histories hold of it.
-    pub fn reached(&self)
-        ensures { IsReached self.now }
+    /// The book of just these rows, which are a part of a ledger's book.
+    pub fn part(alloc: Global, rows: &[BookRow]) -> Result<Book, PartFault>
+        ensures ok { IfOk result (λ book. (first_fault no_rows 0 rows.now ≡ None)
+            × (book ≡ part_of rows.now)) }
+        ensures grown { IfOk result (λ book. IsGrown book) }
+        ensures refused { IfErr result (λ fault.
+            IsPartRefusal fault (first_fault no_rows 0 rows.now)) }
     {
-        let _entries = &self.entries;
+        let part = take_rows(alloc, rows)?;
+        let entries = Vec::new(alloc);
+        Ok(Book {
+            alloc,
+            rows: part.free,
+            deals_before: part.deals,
+            holds_before: part.holds,
+            moves_before: part.moves,
+            entries,
+            deals: part.at_hand,
+        })
     }
 
     /// The opening rows.
@@ -96,7 +131,7 @@ impl Book {
     pub fn moves(&self, deal: &Id, party: &Id) -> u32
         ensures { result ≡ moves_of self.now deal.now party.now }
     {
-        let mut count = 0;
+        let mut count = self.carried_moves(deal, party);
         for entry in &self.entries {
             if entry.change.is_move(deal, party) {
                 count += 1;
@@ -109,7 +144,7 @@ impl Book {
     pub fn if_abort(&self, deal: &Id, party: &Id, asset: &Name) -> u64
         ensures { result ≡ if_abort_of self.now deal.now party.now asset.now }
     {
-        let mut sum = 0;
+        let mut sum = self.carried_abort(deal, party, asset);
         for entry in &self.entries {
             sum += entry.change.escrowed(deal, party, asset);
         }
@@ -121,7 +156,7 @@ impl Book {
     pub fn if_commit(&self, deal: &Id, party: &Id, asset: &Name) -> u64
         ensures { result ≡ if_commit_of self.now deal.now party.now asset.now }
     {
-        let mut came: u128 = 0;
+        let mut came: u128 = u128::from(self.carried_commit(deal, party, asset));
         let mut went: u128 = 0;
         for entry in &self.entries {
             came += u128::from(entry.change.came(deal, party, asset));
@@ -130,7 +165,8 @@ impl Book {
         (came - went) as u64
     }
 
-    /// What the account can spend: its opening amount, payments and payouts, less payments and escrows.
+    /// What the account can spend: its opening amount, payments and payouts, less payments and
+    /// escrows.
     pub fn free(&self, account: &Id, asset: &Name) -> u64
         ensures { result ≡ free_of self.now account.now asset.now }
     {
@@ -138,6 +174,7 @@ impl Book {
         let mut went: u128 = 0;
         for entry in &self.entries {
             came += u128::from(entry.gained(account, asset));
+            came += u128::from(self.carried_payout(&entry.change, account, asset));
             went += u128::from(entry.lost(account, asset));
         }
         (came - went) as u64
@@ -147,6 +184,7 @@ impl Book {
     pub fn register(&mut self, deal: &Id, parties: &[Id]) -> Result<(), BookFault>
         requires { IsTrue (are_parties parties.now) }
         ensures ok { OnOk result (self.new ≡ registered self.old deal.now parties.now) }
+        ensures known { is_known self.old deal.now ≡ true → IsOk result }
         ensures refused { IsOkUnless result BookFault.NoMemory }
         ensures unchanged { OnErr result (self.new ≡ self.old) }
     {
@@ -269,6 +307,44 @@ impl Book {
 }
 
 impl Book {
+    /// What the party is carried with in the deal, if the deal commits.
+    fn carried_commit(&self, deal: &Id, party: &Id, asset: &Name) -> u64
+        ensures { result ≡ carried_commit self.now.carried deal.now party.now asset.now }
+    {
+        find_hold(&self.holds_before, deal, party, asset).map_or(0, |row| row.commit)
+    }
+
+    /// What the party is carried with in the deal, if the deal aborts.
+    fn carried_abort(&self, deal: &Id, party: &Id, asset: &Name) -> u64
+        ensures { result ≡ carried_abort self.now.carried deal.now party.now asset.now }
+    {
+        find_hold(&self.holds_before, deal, party, asset).map_or(0, |row| row.abort)
+    }
+
+    /// How many moves the party is carried with in the deal.
+    fn carried_moves(&self, deal: &Id, party: &Id) -> u32
+        ensures { result ≡ carried_moves self.now.carried deal.now party.now }
+    {
+        find_moves(&self.moves_before, deal, party).map_or(0, |row| row.moves)
+    }
+
+    /// What the settlement pays the account of what is carried.
+    fn carried_payout(&self, change: &Change, account: &Id, asset: &Name) -> u64
+        ensures { result ≡ carried_out self.now.carried account.now asset.now change.now }
+    {
+        match change {
+            Change::Settled {
+                deal,
+                outcome: Outcome::Commit,
+            } => self.carried_commit(deal, account, asset),
+            Change::Settled {
+                deal,
+                outcome: Outcome::Abort,
+            } => self.carried_abort(deal, account, asset),
+            _ => 0,
+        }
+    }
+
     /// The opening amount of the account.
     fn opening(&self, account: &Id, asset: &Name) -> u64
         ensures { result ≡ opening_of self.now.opening account.now asset.now }
@@ -394,17 +470,6 @@ fn list_of(alloc: Global, accounts: &[Id]) -> Result<List<Id>, BookFault>
     ensures refused { IsOkUnless result BookFault.NoMemory }
 {
     Ok(List::from_vec(Vec::from_slice(alloc, accounts)?))
-}
-
-fn row_amount(row: &(Id, Name, u64), account: &Id, asset: &Name) -> u64
-    ensures { result ≡ row_amount account.now asset.now row.now }
-{
-    let (owner, kind, amount) = row;
-    if account == owner && asset == kind {
-        *amount
-    } else {
-        0
-    }
 }
 
 fn check_above_zero(amount: u64) -> Result<(), BookFault>

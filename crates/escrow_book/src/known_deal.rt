@@ -2,7 +2,8 @@
 
 ghost use Rattle.std.specs.Prelude.{◌≡◌, map};
 ghost use Rattle.std.specs.Option.{option_copied};
-ghost use Rattle.escrow_book.specs.Kept.{find_deal, with_outcome};
+ghost use Rattle.escrow_book.specs.Base.{find_deal};
+ghost use Rattle.escrow_book.specs.Kept.{with_outcome};
 
 use dh_base::{Id, List, Outcome};
 

@@ -8,6 +8,11 @@
 //! - `fault`: the refusals
 //! - `known_deal`: what a book keeps at hand of a registered deal
 //! - `laws`: what holds of every history that a book reaches
+//! - `opening`: opening rows, and the first that isn't good
+//! - `part`: the rows of a part of a book, taken up one by one
+//! - `part_fault`: why rows make no part
+//! - `part_sums`: what there is of an asset in the rows of a part
+//! - `row`: what a part of a book is made of
 #![tactic(auto)]
 
 pub mod book;
@@ -16,10 +21,18 @@ mod entry;
 pub mod fault;
 mod known_deal;
 pub mod laws;
+pub mod opening;
+mod part;
+pub mod part_fault;
+mod part_sums;
+pub mod row;
 
 pub use book::Book;
 pub use change::Change;
 pub use fault::BookFault;
+pub use opening::first_bad_row;
+pub use part_fault::PartFault;
+pub use row::{BookRow, HoldRow, MovesRow};
 
 #[cfg(test)]
 mod tests;

@@ -2,13 +2,14 @@
 use Rattle.std.proofs.Common.{◌≡◌, ℕ, ◌+◌, ◌-◌, ◌^◌, ◌≤◌, ◌<◌, Bool, true, false, not, ◌&&◌, ◌||◌, cond, nat_le, nat_lt, None, List, [], ◌∷◌, ◌++◌, length, refl, sym, ap, subst, ◌∙◌, arith, append_assoc}
 use Rattle.std.specs.List.{list_any, count_by}
 use Rattle.std.specs.Str.{bytes_eq}
-use Rattle.std.proofs.lemmas.Bool.{and_parts, and_from, leb-true, le-leb, ltb-true, not-false}
+use Rattle.std.proofs.lemmas.Bool.{and_parts, and_from, leb-true, le-leb, lt-ltb, ltb-true, not-false}
 use Rattle.std.proofs.lemmas.Slice.Eq.{bytes_eq-Decides}
 use Rattle.std.proofs.lemmas.List.{append-nil, length-append}
 use Rattle.std.proofs.lemmas.List.Sums.{sum_by-append, sum_by-cons, sum_by_push}
 use Rattle.std.proofs.lemmas.List.Folds.{list_any-append}
 use Rattle.std.proofs.lemmas.List.Concat.{flat_map-append}
-use Rattle.escrow_book.specs.Opening.{Row, same_id, has_row, total_of, asset_amount, is_good_row as is_good_behind, are_good_rows, is_good_opening, greatest_amount}
+use Rattle.dh_base.specs.Amounts.{greatest_amount}
+use Rattle.escrow_book.specs.Opening.{Row, same_id, has_row, total_of, asset_amount, is_good_row as is_good_behind, are_good_rows, is_good_opening, most_rows}
 use Rattle.plain_script.specs.BoundNames.{opened_of, opened_by, opens_on, opens_row, is_thing, is_ledger, is_good_row}
 use Rattle.plain_script.specs.Rules.{declaration_rule, DeclareByRules}
 use Rattle.plain_script.specs.declared.declaration.Declaration.{Declaration}
@@ -111,9 +112,11 @@ good_behind before on asset party amount good =
     let total : total_of (rows_of before on ++ (plain_id party, asset, amount) ∷ []) asset ≤ greatest_amount =
     omega (arith, sum_by_push (asset_amount asset) (rows_of before on) (plain_id party, asset, amount), total_same before on asset, own, parts.3)
     in
-    and_from (nat_lt 0 amount) _ parts.1
+    let numbered : length (rows_of before on) < most_rows = omega (arith, length_same before on, parts.0) in
+    and_from (nat_lt (length (rows_of before on)) most_rows) _ (lt-ltb (length (rows_of before on)) most_rows numbered)
+    (and_from (nat_lt 0 amount) _ parts.1
     (and_from (not (has_row (rows_of before on) (plain_id party) asset)) _ (ap not (has_row_same before on asset party) ∙ parts.2)
-    (le-leb (total_of (rows_of before on ++ (plain_id party, asset, amount) ∷ []) asset) greatest_amount total))
+    (le-leb (total_of (rows_of before on ++ (plain_id party, asset, amount) ∷ []) asset) greatest_amount total)))
 
 -- ---- the whole
 
@@ -138,34 +141,10 @@ one_more before (Open ledger asset party amount) rest on e good = here (bytes_eq
     here true same = one_row before (Open ledger asset party amount) (plain_id party, asset, amount) rest on (opens_there on ledger asset party amount same) (good_behind before on asset party amount (good_on before on ledger asset party amount e same)) good
     here false other = no_row before (Open ledger asset party amount) rest on (opens_elsewhere on ledger asset party amount other) good
 
-abbrev one_if : Bool → ℕ
-one_if b = cond b 1 0
-
-few_more : (before : List Declaration) (d : Declaration) (on : List ℕ) → declaration_rule before d ≡ None → count_by (opens_on on) before ≤ 1024 → count_by (opens_on on) (before ++ d ∷ []) ≤ 1024
-few_more before (Ledger name) on e few = omega (arith, sum_by_push (λ x. cond (opens_on on x) 1 0) before (Ledger name), few)
-few_more before (Deal name parties) on e few = omega (arith, sum_by_push (λ x. cond (opens_on on x) 1 0) before (Deal name parties), few)
-few_more before (Open ledger asset party amount) on e few = here (bytes_eq on ledger) refl
-  where
-    here : (b : Bool) → bytes_eq on ledger ≡ b → count_by (opens_on on) (before ++ Open ledger asset party amount ∷ []) ≤ 1024
-    here true same =
-        let own : one_if (bytes_eq on ledger) ≡ 1 = ap one_if same in
-        omega (arith, sum_by_push (λ x. cond (opens_on on x) 1 0) before (Open ledger asset party amount), own, (good_parts before on asset party amount (good_on before on ledger asset party amount e same)).0)
-    here false other =
-        let own : one_if (bytes_eq on ledger) ≡ 0 = ap one_if other in
-        omega (arith, sum_by_push (λ x. cond (opens_on on x) 1 0) before (Open ledger asset party amount), own, few)
-
 -- the rows of the lines from here on are good behind those of the lines before
 good_rows : (before ds : List Declaration) (on : List ℕ) → DeclareByRules before ds → are_good_rows (rows_of before on) (rows_of ds on) ≡ true
 good_rows before [] on keep = refl
 good_rows before (d ∷ ds) on keep = one_more before d (rows_of ds on) on keep.0 (good_rows (before ++ d ∷ []) ds on keep.1)
 
-few_rows : (before ds : List Declaration) (on : List ℕ) → DeclareByRules before ds → count_by (opens_on on) before ≤ 1024 → count_by (opens_on on) (before ++ ds) ≤ 1024
-few_rows before [] on keep few = subst (λ (all : List Declaration). count_by (opens_on on) all ≤ 1024) (sym (append-nil before)) few
-few_rows before (d ∷ ds) on keep few =
-    subst (λ (all : List Declaration). count_by (opens_on on) all ≤ 1024) (append_assoc before (d ∷ []) ds)
-    (few_rows (before ++ d ∷ []) ds on keep.1 (few_more before d on keep.0 few))
-
 pub good_opening : (ds : List Declaration) (ledger : List ℕ) → DeclareByRules [] ds → is_good_opening (rows_of ds ledger) ≡ true
-good_opening ds ledger keep =
-    let few : length (rows_of ds ledger) ≤ 1024 = omega (arith, length_same ds ledger, few_rows [] ds ledger keep (omega arith)) in
-    and_from (nat_le (length (rows_of ds ledger)) 1024) (are_good_rows [] (rows_of ds ledger)) (le-leb (length (rows_of ds ledger)) 1024 few) (good_rows [] ds ledger keep)
+good_opening ds ledger keep = good_rows [] ds ledger keep

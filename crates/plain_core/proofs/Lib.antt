@@ -10,6 +10,7 @@ pub mod OneRun
 pub mod Places
 pub mod Settled
 pub mod Settling
+pub mod Standing
 pub mod Told
 pub mod PlainIds
 pub mod Promised

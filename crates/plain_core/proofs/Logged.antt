@@ -19,7 +19,7 @@ use Rattle.plain_core.specs.Ledgers.{World, LogAnswer, step_of, is_member, add_a
 use Rattle.plain_core.specs.declared.reply.Reply.{Reply}
 use Rattle.plain_core.specs.declared.reply.Reply.TheVariants.{RefusedEntry}
 use Rattle.plain_core.specs.declared.log_refusal.LogRefusal.TheVariants as refused
-use Rattle.plain_core.proofs.Following.{TellsNoSettlement}
+use Rattle.plain_core.proofs.Following.{IsSilent}
 
 abbrev pub IsLonger : Log → Log → Type 0
 IsLonger old new = (more : List Entry) × (new.entries ≡ old.entries ++ more)
@@ -27,17 +27,17 @@ IsLonger old new = (more : List Entry) × (new.entries ≡ old.entries ++ more)
 pub same_log : (log : Log) → IsLonger log log
 same_log log = ([], sym (append-nil log.entries))
 
--- the log is longer, and the reply tells no settlement
+-- the log is longer, and the reply tells no outcome
 pub record IsLogged (log : Log) (answer : LogAnswer) : Type 0 where
   pub longer : IsLonger log answer.log
-  pub replies : TellsNoSettlement answer.reply
+  pub replies : IsSilent answer.reply
 
-refused_entry : (log : Log) (refusal : Reply) → TellsNoSettlement refusal → IsLogged log (log_refuses log refusal)
+refused_entry : (log : Log) (refusal : Reply) → IsSilent refusal → IsLogged log (log_refuses log refusal)
 refused_entry log refusal none = record { longer = same_log log; replies = none }
 
 answered_entry : (log : Log) (entry : Entry) (refusal : Option LogFault) → IsLogged log (entry_answer log entry refusal)
-answered_entry log entry (Some fault) = refused_entry log (RefusedEntry (refused.Fault fault)) (λ o e. cc)
-answered_entry log entry None = record { longer = (entry ∷ [], refl); replies = λ o e. cc }
+answered_entry log entry (Some fault) = refused_entry log (RefusedEntry (refused.Fault fault)) tt
+answered_entry log entry None = record { longer = (entry ∷ [], refl); replies = tt }
 
 added_entry : (log : Log) (entry : Entry) → IsLogged log (add_answer log entry)
 added_entry log entry = answered_entry log entry (add_refusal log.entries log.limit entry)
@@ -47,14 +47,14 @@ start_logged members deal party log = by (is_member members party)
   where
     by : (b : Bool) → IsLogged log (cond b (add_answer log (record { kind = kind.Start; num = length members; deal = plain_id deal })) (log_refuses log (RefusedEntry (refused.NotAParty party))))
     by true = added_entry log (record { kind = kind.Start; num = length members; deal = plain_id deal })
-    by false = refused_entry log (RefusedEntry (refused.NotAParty party)) (λ o e. cc)
+    by false = refused_entry log (RefusedEntry (refused.NotAParty party)) tt
 
 by_index : (log : Log) (choice : Outcome) (deal party : List ℕ) (index : Option ℕ) → IsLogged log (vote_by log choice deal party index)
-by_index log choice deal party None = refused_entry log (RefusedEntry (refused.NotAParty party)) (λ o e. cc)
+by_index log choice deal party None = refused_entry log (RefusedEntry (refused.NotAParty party)) tt
 by_index log choice deal party (Some index) = added_entry log (record { kind = vote_kind choice; num = index; deal = plain_id deal })
 
 found_logged : (log : Log) (choice : Outcome) (deal party : List ℕ) (index : Option ℕ) (votable : Result ℕ LogFault) → IsLogged log (vote_found log choice deal party index votable)
-found_logged log choice deal party index (Err fault) = refused_entry log (RefusedEntry (refused.Fault fault)) (λ o e. cc)
+found_logged log choice deal party index (Err fault) = refused_entry log (RefusedEntry (refused.Fault fault)) tt
 found_logged log choice deal party index (Ok parties) = by_index log choice deal party index
 
 pub vote_logged : (members : List (List ℕ)) (choice : Outcome) (deal party : List ℕ) (log : Log) → IsLogged log (vote_answer members choice deal party log)

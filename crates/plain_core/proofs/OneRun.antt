@@ -60,7 +60,7 @@ started_sound : (ds : List Declaration) → DeclareByRules [] ds → (names : Li
 started_sound ds keep [] ledger there = absurd (contains_none ledger there)
 started_sound ds keep (name ∷ names) ledger there =
     elim (contains_cons (started_ledger ds name) (map (started_ledger ds) names) ledger there) [
-      | inl is ↦ subst (IsSound ds 0) is (record { opening = refl; reached = record { good = good_opening ds name keep; accepted = tt }; few = omega arith })
+      | inl is ↦ subst (IsSound ds 0) is (record { opening = refl; reached = record { whole = refl; good = good_opening ds name keep; accepted = tt }; few = omega arith })
       | inr more ↦ started_sound ds keep names ledger more
     ]
 

@@ -2,6 +2,7 @@
 use Rattle.std.proofs.Common.{◌≡◌, ℕ, ◌+◌, ◌<◌, ◌≤◌, Bool, true, false, cond, Some, Result, Ok, Err, List, [], ◌∷◌, ◌++◌, map, length, take, drop, refl, sym, ap, subst, ◌∙◌, inl, inr, ◌⊎◌, arith, append_assoc}
 use Rattle.std.specs.Prelude.{flat_map, Contains}
 use Rattle.std.proofs.lemmas.List.{take-append-drop}
+use Rattle.std.proofs.lemmas.List.Elements.{Contains-push}
 use Rattle.dh_base.specs.declared.id.Id.{Id}
 use Rattle.dh_base.specs.declared.outcome.Outcome.{Outcome}
 use Rattle.escrow_book.specs.declared.change.Change.TheVariants as change
@@ -21,14 +22,15 @@ use Rattle.plain_core.specs.Ids.{plain_id}
 use Rattle.plain_core.specs.Starts.{started_world}
 use Rattle.plain_core.specs.Ledgers.{LedgerTold, World, step_of}
 use Rattle.plain_core.specs.Reports.{Report, is_out_of_range, reply_line, told_behind, goes_on, run_from}
-use Rattle.plain_core.specs.OneLog.{Moment, moment_at, moments_from, end_of, Run, run_between, worlds_of, IsOutcome, IsSettlement, WasSettled, EndsSettled, KeepsAssets, IsAccepted, FollowsOneLog, moment_line}
-use Rattle.plain_core.specs.declared.reply.Reply.TheVariants.{RefusedClaim}
+use Rattle.plain_core.specs.OneLog.{Moment, moment_at, moments_from, end_of, Run, run_between, worlds_of, IsOutcome, ledger_named, IsSettlement, IsRepeat, WasSettled, EndsSettled, StandsSettled, KeepsAssets, IsAccepted, FollowsOneLog, moment_line}
+use Rattle.plain_core.specs.declared.reply.Reply.TheVariants.{Already, RefusedClaim}
 use Rattle.plain_core.specs.declared.claim_refusal.ClaimRefusal.TheVariants.{UnknownDeal}
-use Rattle.plain_core.proofs.Finding.{contains_none, contains_head, contains_tail, contains_cons, found_replies}
+use Rattle.plain_core.proofs.Finding.{contains_none, contains_head, contains_tail, contains_cons, found_replies, found_there}
 use Rattle.plain_core.proofs.Following.{GrowthLaws}
 use Rattle.plain_core.proofs.Logged.{IsLonger, same_log, step_longer}
 use Rattle.plain_core.proofs.OneRun.{AreSound, start_sound, step_sound}
 use Rattle.plain_core.proofs.Settled.{HadSettled, IsSettledBy, settled_by}
+use Rattle.plain_core.proofs.Standing.{settled_there, step_named}
 use Rattle.plain_core.proofs.Settling.{PayLaw, claim_at, claim_settles}
 
 -- what is known of books and of logs
@@ -143,6 +145,29 @@ made_by laws law ds keep world (happened ∷ rest) good ledger d o there settled
       | inr made ↦ inr (made.0, made.1, contains_tail now later made.0 made.2, made.3, made.4)
     ]
 
+-- what has settled a deal on the ledger of a name has settled it there at the end
+settled_on : GrowthLaws → (ds : List Declaration) → DeclareByRules [] ds → (world : World) (events : List Numbered) (name : List ℕ) (old : LedgerTold) (d : Id) (o : Outcome) → ledger_named name world ≡ Some old → Contains old.history.changes (change.Settled d o) → (ledger : LedgerTold) × (ledger_named name (end_of world (moments_from ds world events)) ≡ Some ledger) × Contains ledger.history.changes (change.Settled d o)
+settled_on laws ds keep world [] name old d o found there = (old, found, there)
+settled_on laws ds keep world (happened ∷ rest) name old d o found there =
+    let on = step_named laws ds keep world happened.event name old found in
+    settled_on laws ds keep (step_of ds world happened.event).world rest name on.0 d o on.1 (on.2.keeps d o there)
+
+-- before and behind a moment of the run, what has settled a deal has settled it at the end
+abbrev StandsBefore : List ℕ → Id → Outcome → World → Moment → Type 0
+StandsBefore name d o end moment = (old : LedgerTold) → ledger_named name moment.before ≡ Some old → Contains old.history.changes (change.Settled d o) → (ledger : LedgerTold) × (ledger_named name end ≡ Some ledger) × Contains ledger.history.changes (change.Settled d o)
+
+abbrev StandsBehind : List ℕ → Id → Outcome → World → Moment → Type 0
+StandsBehind name d o end moment = (old : LedgerTold) → ledger_named name moment.after ≡ Some old → Contains old.history.changes (change.Settled d o) → (ledger : LedgerTold) × (ledger_named name end ≡ Some ledger) × Contains ledger.history.changes (change.Settled d o)
+
+stands_at : GrowthLaws → (ds : List Declaration) → DeclareByRules [] ds → (world : World) (events : List Numbered) (moment : Moment) (name : List ℕ) (d : Id) (o : Outcome) → Contains (moments_from ds world events) moment → StandsBefore name d o (end_of world (moments_from ds world events)) moment × StandsBehind name d o (end_of world (moments_from ds world events)) moment
+stands_at laws ds keep world [] moment name d o there = absurd (contains_none moment there)
+stands_at laws ds keep world (happened ∷ rest) moment name d o there =
+    let now : Moment = moment_at ds world happened in
+    elim (contains_cons now (moments_from ds now.after rest) moment there) [
+      | inl is ↦ subst (λ (m : Moment). StandsBefore name d o (end_of now.after (moments_from ds now.after rest)) m × StandsBehind name d o (end_of now.after (moments_from ds now.after rest)) m) is (λ old found settled. settled_on laws ds keep world (happened ∷ rest) name old d o found settled, λ old found settled. settled_on laws ds keep now.after rest name old d o found settled)
+      | inr later ↦ stands_at laws ds keep now.after rest moment name d o later
+    ]
+
 longer_twice : (a b c : Log) → IsLonger a b → IsLonger b c → IsLonger a c
 longer_twice a b c first second = (first.0 ++ second.0, second.1 ∙ (ap (λ es. es ++ second.0) first.1 ∙ append_assoc a.entries first.0 second.0))
 
@@ -159,6 +184,16 @@ moment_longer ds world (happened ∷ rest) moment there =
     elim (contains_cons now (moments_from ds now.after rest) moment there) [
       | inl is ↦ subst (λ (m : Moment). IsLonger m.before.log (end_of now.after (moments_from ds now.after rest)).log) is (end_longer ds world (happened ∷ rest))
       | inr later ↦ moment_longer ds now.after rest moment later
+    ]
+
+-- behind a moment the log is one that the end's goes on from
+behind_longer : (ds : List Declaration) (world : World) (events : List Numbered) (moment : Moment) → Contains (moments_from ds world events) moment → IsLonger moment.before.log moment.after.log × IsLonger moment.after.log (end_of world (moments_from ds world events)).log
+behind_longer ds world [] moment there = absurd (contains_none moment there)
+behind_longer ds world (happened ∷ rest) moment there =
+    let now : Moment = moment_at ds world happened in
+    elim (contains_cons now (moments_from ds now.after rest) moment there) [
+      | inl is ↦ subst (λ (m : Moment). IsLonger m.before.log m.after.log × IsLonger m.after.log (end_of now.after (moments_from ds now.after rest)).log) is (step_longer ds world happened.event, end_longer ds now.after rest)
+      | inr later ↦ behind_longer ds now.after rest moment later
     ]
 
 -- what a prefix of a log decides, every longer log decides
@@ -186,7 +221,7 @@ contains_map f (x ∷ xs) y there =
 keeps_assets : RunLaws → (ds : List Declaration) (n : ℕ) (ledgers : List LedgerTold) → AreSound ds n ledgers → (ledger : LedgerTold) → Contains ledgers ledger → KeepsAssets ds ledger
 keeps_assets laws ds n ledgers sound ledger there =
     let s = sound ledger there in
-    record { opening = s.opening; conserved = λ accounts asset its. laws.conserved ledger.history accounts asset s.reached its; once = λ d. laws.once ledger.history d s.reached }
+    record { opening = s.opening; reached = s.reached; conserved = λ accounts asset its. laws.conserved ledger.history accounts asset s.reached its; once = λ d. laws.once ledger.history d s.reached }
 
 pub follows_one_log : RunLaws → (ds : List Declaration) → DeclareByRules [] ds → (events : List Numbered) → length events < 4294967295 → ((moment : Moment) → Contains (moments_from ds (started_world ds) events) moment → is_out_of_range moment.before moment.happened.event ≡ false) → FollowsOneLog ds (run_between (started_world ds) (moments_from ds (started_world ds) events))
 follows_one_log laws ds keep events room range = record {
@@ -194,6 +229,9 @@ follows_one_log laws ds keep events room range = record {
   by_log = by_log;
   by_claim = by_claim;
   told = λ moment outcome there e. (settled_at laws.growth laws.pays ds keep moment (good moment there)).replies outcome e;
+  stands = stands;
+  again = again;
+  grows = λ moment there. behind_longer ds start events moment there;
   accepted = λ moment there. accepted_at ds moment (good moment there);
   conserved = conserved;
 }
@@ -226,6 +264,22 @@ follows_one_log laws ds keep events room range = record {
         let s = made.4 in
         prefix_decides laws.stays made.0.before.log run.end.log s.len d o (moment_longer ds start events made.0 made.2)
         (subst (λ e. IsOutcome (take s.len made.0.before.log.entries) e o) (sym made.3) s.decided)
+
+    stands : (moment : Moment) (name deal : List ℕ) (o : Outcome) → Contains run.moments moment → IsSettlement moment name deal o → IsOutcome run.end.log.entries (plain_id deal) o × StandsSettled run name (plain_id deal) o
+    stands moment name deal o there s =
+        let new : Contains s.after.history.changes (change.Settled (plain_id deal) o) = subst (λ (h : History). Contains h.changes (change.Settled (plain_id deal) o)) (sym s.entered) (Contains-push s.before.history.changes (change.Settled (plain_id deal) o)) in
+        let last = (stands_at laws.growth ds keep start events moment name (plain_id deal) o there).1 s.after s.left new in
+        let ends : EndsSettled run last.0 (plain_id deal) o = record { there = found_there name run.end.ledgers last.0 last.1; settled = last.2 } in
+        (by_log last.0 (plain_id deal) o ends, (last.0, last.1, ends))
+
+    again : (moment : Moment) (o : Outcome) → Contains run.moments moment → moment.reply ≡ Already o → (name deal : List ℕ) × IsRepeat moment name deal o × IsOutcome run.end.log.entries (plain_id deal) o
+    again moment o there e =
+        let repeat = (settled_at laws.growth laws.pays ds keep moment (good moment there)).repeats o e in
+        let r = repeat.2 in
+        let old : Contains r.before.history.changes (change.Settled (plain_id repeat.1) o) = settled_there r.before.history (plain_id repeat.1) o ((good moment there).reached r.before (found_there repeat.0 moment.before.ledgers r.before r.found)) r.settled in
+        let last = (stands_at laws.growth ds keep start events moment repeat.0 (plain_id repeat.1) o there).0 r.before r.found old in
+        let ends : EndsSettled run last.0 (plain_id repeat.1) o = record { there = found_there repeat.0 run.end.ledgers last.0 last.1; settled = last.2 } in
+        (repeat.0, repeat.1, r, by_log last.0 (plain_id repeat.1) o ends)
 
     conserved : (world : World) (ledger : LedgerTold) → Contains (worlds_of run) world → Contains world.ledgers ledger → KeepsAssets ds ledger
     conserved world ledger there at =

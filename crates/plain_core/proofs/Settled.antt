@@ -17,16 +17,16 @@ use Rattle.plain_script.specs.declared.event.Event.TheVariants.{Register, Escrow
 use Rattle.plain_core.specs.Ids.{plain_id}
 use Rattle.plain_core.specs.Ledgers.{LedgerTold, World, Step, Answer, act_at, at_ledger, register_answer, escrow_answer, transfer_answer, step_of}
 use Rattle.plain_core.specs.Reports.{exceeds, is_out_of_range}
-use Rattle.plain_core.specs.OneLog.{Moment, moment_at, IsSettlement}
+use Rattle.plain_core.specs.OneLog.{Moment, moment_at, IsSettlement, IsRepeat}
 use Rattle.plain_core.specs.declared.reply.Reply.{Reply}
-use Rattle.plain_core.specs.declared.reply.Reply.TheVariants.{Settled, RefusedAct, RefusedClaim}
+use Rattle.plain_core.specs.declared.reply.Reply.TheVariants.{Settled, Already, RefusedAct, RefusedClaim}
 use Rattle.plain_core.specs.declared.act_refusal.ActRefusal.TheVariants.{UnknownDeal as UnknownAct}
 use Rattle.plain_core.specs.declared.claim_refusal.ClaimRefusal.TheVariants.{UnknownDeal}
 use Rattle.plain_core.proofs.Places.{is_named}
 use Rattle.plain_core.proofs.Finding.{came_from, found_replies, none_replies, found_there, named_so}
-use Rattle.plain_core.proofs.Following.{GrowthLaws, IsQuiet, TellsNoSettlement, register_quiet, escrow_quiet, transfer_quiet}
+use Rattle.plain_core.proofs.Following.{GrowthLaws, IsQuiet, IsSilent, silent_settled, silent_again, register_quiet, escrow_quiet, transfer_quiet}
 use Rattle.plain_core.proofs.Logged.{start_logged, vote_logged}
-use Rattle.plain_core.proofs.Settling.{PayLaw, Settles, claim_cases, claim_at, is_settlement}
+use Rattle.plain_core.proofs.Settling.{PayLaw, Settles, claim_cases, claim_repeats, claim_at, is_settlement}
 
 -- a ledger of that name had the settlement
 pub record HadSettled (ledgers : List LedgerTold) (name : List ℕ) (d : Id) (o : Outcome) : Type 0 where
@@ -45,22 +45,27 @@ pub record Settling (moment : Moment) (name : List ℕ) (d : Id) (o : Outcome) :
 pub record IsSettledBy (moment : Moment) : Type 0 where
   pub settlements : (ledger : LedgerTold) (d : Id) (o : Outcome) → Contains moment.after.ledgers ledger → Contains ledger.history.changes (change.Settled d o) → HadSettled moment.before.ledgers ledger.name d o ⊎ Settling moment ledger.name d o
   pub replies : (o : Outcome) → moment.reply ≡ Settled o → (name deal : List ℕ) × IsSettlement moment name deal o
+  pub repeats : (o : Outcome) → moment.reply ≡ Already o → (name deal : List ℕ) × IsRepeat moment name deal o
 
 -- ---- events that settle nothing
 
-quiet_reply : (name : List ℕ) (f : LedgerTold → Answer) (unknown : Reply) (ls : List LedgerTold) → ((l : LedgerTold) → TellsNoSettlement (f l).reply) → TellsNoSettlement unknown → TellsNoSettlement (at_ledger name f unknown ls).reply
-quiet_reply name f unknown ls replies none o e = by (find (is_named name) ls) refl
+quiet_reply : (name : List ℕ) (f : LedgerTold → Answer) (unknown : Reply) (ls : List LedgerTold) → ((l : LedgerTold) → IsSilent (f l).reply) → IsSilent unknown → IsSilent (at_ledger name f unknown ls).reply
+quiet_reply name f unknown ls replies silent = by (find (is_named name) ls) refl
   where
-    by : (found : Option LedgerTold) → find (is_named name) ls ≡ found → ⊥
-    by None missing = none o (sym (none_replies name f unknown ls missing) ∙ e)
-    by (Some old) found = replies old o (sym (found_replies name f unknown ls old found) ∙ e)
+    by : (found : Option LedgerTold) → find (is_named name) ls ≡ found → IsSilent (at_ledger name f unknown ls).reply
+    by None missing = subst IsSilent (sym (none_replies name f unknown ls missing)) silent
+    by (Some old) found = subst IsSilent (sym (found_replies name f unknown ls old found)) (replies old)
 
 quiet_act : (ds : List Declaration) (world : World) (line : ℕ) (event : Event) (name : List ℕ) (f : LedgerTold → Answer) → step_of ds world event ≡ act_at world name f → ((l : LedgerTold) → IsQuiet l (f l)) → IsSettledBy (moment_at ds world (record { line = line; event = event }))
 quiet_act ds world line event name f is quiet = record {
   settlements = λ ledger d o there settled. at ledger d o (subst (λ (s : Step). Contains s.world.ledgers ledger) is there) settled;
-  replies = λ o e. absurd (quiet_reply name f (RefusedAct UnknownAct) world.ledgers (λ l. (quiet l).replies) (λ o e. cc) o (sym (ap (λ (s : Step). s.reply) is) ∙ e));
+  replies = λ o e. absurd (silent_settled (step_of ds world event).reply silent o e);
+  repeats = λ o e. absurd (silent_again (step_of ds world event).reply silent o e);
 }
   where
+    silent : IsSilent (step_of ds world event).reply
+    silent = subst IsSilent (sym (ap (λ (s : Step). s.reply) is)) (quiet_reply name f (RefusedAct UnknownAct) world.ledgers (λ l. (quiet l).replies) tt)
+
     at : (ledger : LedgerTold) (d : Id) (o : Outcome) → Contains (at_ledger name f (RefusedAct UnknownAct) world.ledgers).ledgers ledger → Contains ledger.history.changes (change.Settled d o) → HadSettled world.ledgers ledger.name d o ⊎ Settling (moment_at ds world (record { line = line; event = event })) ledger.name d o
     at ledger d o there settled =
         elim (came_from name f (RefusedAct UnknownAct) world.ledgers ledger there) [
@@ -75,10 +80,11 @@ quiet_act ds world line event name f is quiet = record {
               })
         ]
 
-logged : (ds : List Declaration) (world : World) (line : ℕ) (event : Event) → (step_of ds world event).world.ledgers ≡ world.ledgers → TellsNoSettlement (step_of ds world event).reply → IsSettledBy (moment_at ds world (record { line = line; event = event }))
-logged ds world line event same none = record {
+logged : (ds : List Declaration) (world : World) (line : ℕ) (event : Event) → (step_of ds world event).world.ledgers ≡ world.ledgers → IsSilent (step_of ds world event).reply → IsSettledBy (moment_at ds world (record { line = line; event = event }))
+logged ds world line event same silent = record {
   settlements = λ ledger d o there settled. inl (record { ledger = ledger; there = subst (λ (ls : List LedgerTold). Contains ls ledger) same there; named = refl; settled = settled });
-  replies = λ o e. absurd (none o e);
+  replies = λ o e. absurd (silent_settled (step_of ds world event).reply silent o e);
+  repeats = λ o e. absurd (silent_again (step_of ds world event).reply silent o e);
 }
 
 -- ---- claims
@@ -94,7 +100,7 @@ same_reply : (o p : Outcome) → Settled o ≡ Settled p → o ≡ p
 same_reply o p same = cc
 
 claimed : PayLaw → (ds : List Declaration) (world : World) (line : ℕ) (name deal : List ℕ) (len : ℕ) → len ≤ length world.log.entries → ((ledger : LedgerTold) → Contains world.ledgers ledger → IsReached ledger.history) → IsSettledBy (moment_at ds world (record { line = line; event = Claim name deal (Some len) }))
-claimed law ds world line name deal len shown reached = record { settlements = settlements; replies = replies }
+claimed law ds world line name deal len shown reached = record { settlements = settlements; replies = replies; repeats = repeats }
   where
     f : LedgerTold → Answer
     f = claim_at world deal len
@@ -149,6 +155,15 @@ claimed law ds world line name deal len shown reached = record { settlements = s
         by : (found : Option LedgerTold) → find (is_named name) world.ledgers ≡ found → (n k : List ℕ) × IsSettlement moment n k o
         by None missing = let clash : RefusedClaim UnknownDeal ≡ Settled o = sym (none_replies name f (RefusedClaim UnknownDeal) world.ledgers missing) ∙ e in absurd cc
         by (Some old) found = by_claim old o found e
+
+    repeats : (o : Outcome) → moment.reply ≡ Already o → (n k : List ℕ) × IsRepeat moment n k o
+    repeats o e = by (find (is_named name) world.ledgers) refl
+      where
+        by : (found : Option LedgerTold) → find (is_named name) world.ledgers ≡ found → (n k : List ℕ) × IsRepeat moment n k o
+        by None missing = let clash : RefusedClaim UnknownDeal ≡ Already o = sym (none_replies name f (RefusedClaim UnknownDeal) world.ledgers missing) ∙ e in absurd cc
+        by (Some old) found =
+            let settled = claim_repeats world.log.entries deal len old o (sym (found_replies name f (RefusedClaim UnknownDeal) world.ledgers old found) ∙ e) in
+            (name, deal, record { len = Some len; claimed = refl; before = old; found = found; settled = settled; replied = e })
 
 -- ---- every event
 

@@ -60,6 +60,16 @@ claim_cases entries deal len old = by_known (is_known old.history (plain_id deal
         by_settled (settlement_of old.history (plain_id deal)) refl known
         (ap (λ b. cond b (claim_found old (plain_id deal) len (settlement_of old.history (plain_id deal)) (outcome_of (take len entries) (plain_id deal))) (refuses old (RefusedClaim UnknownDeal))) known)
 
+-- a claim is answered that its deal is settled already only where it is
+pub claim_repeats : (entries : List Entry) (deal : List ℕ) (len : ℕ) (old : LedgerTold) (outcome : Outcome) → (claim_answer entries deal len old).reply ≡ Already outcome → settlement_of old.history (plain_id deal) ≡ Some outcome
+claim_repeats entries deal len old outcome e = at (is_known old.history (plain_id deal)) (settlement_of old.history (plain_id deal)) (outcome_of (take len entries) (plain_id deal)) e
+  where
+    at : (known : Bool) (settled : Option Outcome) (decided : Option Decision) → (cond known (claim_found old (plain_id deal) len settled decided) (refuses old (RefusedClaim UnknownDeal))).reply ≡ Already outcome → settled ≡ Some outcome
+    at false settled decided told = absurd cc
+    at true (Some o) decided told = let same : o ≡ outcome = cc in ap (λ (p : Outcome). Some p) same
+    at true None None told = absurd cc
+    at true None (Some decision) told = absurd cc
+
 -- an open deal that the prefix decides is settled
 pub claim_settles : (entries : List Entry) (deal : List ℕ) (len : ℕ) (old : LedgerTold) (outcome : Outcome) → IsOpen old.history (plain_id deal) → IsOutcome (take len entries) (plain_id deal) outcome → (claim_answer entries deal len old).reply ≡ Settled outcome
 claim_settles entries deal len old outcome running decided = rw (running.registered, running.unsettled, decided.1) refl

@@ -6,7 +6,8 @@ use Rattle.escrow_book.proofs.Growing.{transfer_grows}
 use Rattle.escrow_book.specs.History.{settlement}
 use Rattle.escrow_book.proofs.Once.{settled_once, one_answers}
 use Rattle.escrow_book.proofs.Paying.{pays}
-use Rattle.escrow_book.proofs.Steps.{reached_push}
+use Rattle.escrow_book.proofs.Steps.{base_of, reached_push}
+use Rattle.escrow_book.proofs.Whole.{grown}
 use Rattle.escrow_book.proofs.Totals.{is_conserved}
 use Rattle.vote_log.proofs.Decided.{stays}
 use Rattle.plain_script.proofs.Declared.{declared_good, few_happen}
@@ -45,9 +46,9 @@ run_laws = record {
     transfer = transfer_grows;
     settle = λ h d outcome r free. reached_push h (Settled d outcome) r free;
   };
-  pays = pays;
-  conserved = λ h accounts x r its. is_conserved h.opening h.changes r x accounts its;
-  once = λ h d r. one_answers (settlement d) h.changes (settled_once h.opening h.changes d r);
+  pays = λ h d p x outcome r free. pays h d p x outcome (grown h r) free;
+  conserved = λ h accounts x r its. is_conserved h accounts x r.whole (grown h r) its;
+  once = λ h d r. one_answers (settlement d) h.changes (settled_once (base_of h) h.changes d (grown h r));
   stays = stays;
 }
 

@@ -51,7 +51,8 @@ is_member members party = list_any (bytes_eq party) members
 
 -- a ledger with one entry more, and this history
 abbrev pub with_entry : LedgerTold → History → LedgerTold
-with_entry ledger history = record { name = ledger.name; history = history; entries = ledger.entries + 1 }
+with_entry ledger history =
+    record { name = ledger.name; history = history; entries = ledger.entries + 1 }
 
 -- what a ledger answers, and what it is then
 pub record Answer : Type 0 where
@@ -59,7 +60,8 @@ pub record Answer : Type 0 where
   pub ledger : LedgerTold
 
 abbrev pub accepts : LedgerTold → History → Answer
-accepts ledger history = record { reply = Done (ledger.entries + 1); ledger = with_entry ledger history }
+accepts ledger history =
+    record { reply = Done (ledger.entries + 1); ledger = with_entry ledger history }
 
 abbrev pub refuses : LedgerTold → Reply → Answer
 refuses ledger reply = record { reply = reply; ledger = ledger }
@@ -68,7 +70,8 @@ refuses ledger reply = record { reply = reply; ledger = ledger }
 abbrev pub name_of : List ℕ → List ℕ → Id → List ℕ
 name_of first second account = if same_id account (plain_id first) then first else second
 
--- A book's refusal, with the numbers of a ledger's and the account by its name. Want of memory is no refusal of a history.
+-- A book's refusal, with the numbers of a ledger's and the account by its name. Want of memory is
+-- no refusal of a history.
 abbrev pub act_refusal : List ℕ → List ℕ → BookFault → ActRefusal
 act_refusal first second book.UnknownDeal = act.UnknownDeal
 act_refusal first second (book.NotAParty account) = act.NotAParty (name_of first second account)
@@ -80,31 +83,42 @@ act_refusal first second book.NoMemory = act.UnknownDeal
 
 -- the answer to an act with this refusal of the book, and this history without one
 abbrev pub act_answer : LedgerTold → List ℕ → List ℕ → Option BookFault → History → Answer
-act_answer ledger first second (Some fault) history = refuses ledger (RefusedAct (act_refusal first second fault))
+act_answer ledger first second (Some fault) history =
+    refuses ledger (RefusedAct (act_refusal first second fault))
 act_answer ledger first second None history = accepts ledger history
 
--- A party of the deal registers it. A deal that is registered stays as it is, and the act has an entry all the same.
+-- A party of the deal registers it. A deal that is registered stays as it is, and the act has an
+-- entry all the same.
 abbrev pub register_answer : List (List ℕ) → List ℕ → List ℕ → LedgerTold → Answer
 register_answer members deal party ledger =
-    if is_member members party then accepts ledger (registered ledger.history (plain_id deal) (map plain_id members))
+    if is_member members party
+    then accepts ledger (registered ledger.history (plain_id deal) (map plain_id members))
     else refuses ledger (RefusedAct (act.NotAParty party))
 
 abbrev pub escrow_answer : List ℕ → List ℕ → List ℕ → ℕ → LedgerTold → Answer
 escrow_answer deal party asset amount ledger =
-    act_answer ledger party party (escrow_refusal ledger.history (plain_id deal) (plain_id party) asset amount)
+    act_answer ledger party party
+    (escrow_refusal ledger.history (plain_id deal) (plain_id party) asset amount)
     (with_change ledger.history (change.Escrowed (plain_id deal) (plain_id party) asset amount))
 
 abbrev pub transfer_answer : List ℕ → List ℕ → ℕ → List ℕ → List ℕ → ℕ → LedgerTold → Answer
 transfer_answer deal from turn to asset amount ledger =
-    act_answer ledger from to (transfer_refusal ledger.history (plain_id deal) (plain_id from) turn (plain_id to) asset amount)
-    (with_change ledger.history (change.Transferred (plain_id deal) (plain_id from) (plain_id to) asset amount))
+    act_answer ledger from to
+    (transfer_refusal ledger.history (plain_id deal) (plain_id from) turn (plain_id to) asset
+    amount)
+    (with_change ledger.history
+    (change.Transferred (plain_id deal) (plain_id from) (plain_id to) asset amount))
 
 -- ---- claims
 
 -- what a claim finds: the deal's settlement, or else what the shown records decide
 abbrev pub claim_decided : LedgerTold → Id → ℕ → Option Decision → Answer
 claim_decided ledger deal len None = refuses ledger (RefusedClaim (claim.Undecided len))
-claim_decided ledger deal len (Some decision) = record { reply = Settled decision.outcome; ledger = with_entry ledger (with_change ledger.history (change.Settled deal decision.outcome)) }
+claim_decided ledger deal len (Some decision) =
+    record {
+      reply = Settled decision.outcome;
+      ledger = with_entry ledger (with_change ledger.history (change.Settled deal decision.outcome));
+    }
 
 abbrev pub claim_found : LedgerTold → Id → ℕ → Option Outcome → Option Decision → Answer
 claim_found ledger deal len (Some outcome) decision = refuses ledger (Already outcome)
@@ -114,7 +128,8 @@ claim_found ledger deal len None decision = claim_decided ledger deal len decisi
 abbrev pub claim_answer : List Entry → List ℕ → ℕ → LedgerTold → Answer
 claim_answer entries deal len ledger =
     if is_known ledger.history (plain_id deal)
-    then claim_found ledger (plain_id deal) len (settlement_of ledger.history (plain_id deal)) (outcome_of (take len entries) (plain_id deal))
+    then claim_found ledger (plain_id deal) len (settlement_of ledger.history (plain_id deal))
+    (outcome_of (take len entries) (plain_id deal))
     else refuses ledger (RefusedClaim claim.UnknownDeal)
 
 -- ---- the log
@@ -129,7 +144,14 @@ log_refuses log reply = record { reply = reply; log = log }
 -- the entry at the log's end, unless the log refuses it
 abbrev pub entry_answer : Log → Entry → Option LogFault → LogAnswer
 entry_answer log entry (Some fault) = log_refuses log (RefusedEntry (refused.Fault fault))
-entry_answer log entry None = record { reply = Entered (length log.entries); log = record log { entries = log.entries ++ entry ∷ [] } }
+entry_answer log entry None =
+    record {
+      reply = Entered (length log.entries);
+      log = record log {
+        entries = log.entries
+            ++ entry ∷ [];
+      };
+    }
 
 abbrev pub add_answer : Log → Entry → LogAnswer
 add_answer log entry = entry_answer log entry (add_refusal log.entries log.limit entry)
@@ -137,22 +159,27 @@ add_answer log entry = entry_answer log entry (add_refusal log.entries log.limit
 -- a party of the deal starts it
 abbrev pub start_answer : List (List ℕ) → List ℕ → List ℕ → Log → LogAnswer
 start_answer members deal party log =
-    if is_member members party then add_answer log (record { kind = kind.Start; num = length members; deal = plain_id deal })
+    if is_member members party
+    then add_answer log
+    (record { kind = kind.Start; num = length members; deal = plain_id deal })
     else log_refuses log (RefusedEntry (refused.NotAParty party))
 
 -- a vote of the party with that index, or of none
 abbrev pub vote_by : Log → Outcome → List ℕ → List ℕ → Option ℕ → LogAnswer
 vote_by log choice deal party None = log_refuses log (RefusedEntry (refused.NotAParty party))
-vote_by log choice deal party (Some index) = add_answer log (record { kind = vote_kind choice; num = index; deal = plain_id deal })
+vote_by log choice deal party (Some index) =
+    add_answer log (record { kind = vote_kind choice; num = index; deal = plain_id deal })
 
 -- whether the deal can be voted on comes before whose vote it is
 abbrev pub vote_found : Log → Outcome → List ℕ → List ℕ → Option ℕ → Result ℕ LogFault → LogAnswer
-vote_found log choice deal party index (Err fault) = log_refuses log (RefusedEntry (refused.Fault fault))
+vote_found log choice deal party index (Err fault) =
+    log_refuses log (RefusedEntry (refused.Fault fault))
 vote_found log choice deal party index (Ok parties) = vote_by log choice deal party index
 
 abbrev pub vote_answer : List (List ℕ) → Outcome → List ℕ → List ℕ → Log → LogAnswer
 vote_answer members choice deal party log =
-    vote_found log choice deal party (position (bytes_eq party) members) (votable_of log.entries (plain_id deal))
+    vote_found log choice deal party (position (bytes_eq party) members)
+    (votable_of log.entries (plain_id deal))
 
 -- ---- the whole
 
@@ -176,24 +203,37 @@ behind ledger step = record { reply = step.reply; ledgers = ledger ∷ step.ledg
 abbrev pub at_ledger : List ℕ → (LedgerTold → Answer) → Reply → List LedgerTold → LedgersStep
 at_ledger name answer unknown [] = record { reply = unknown; ledgers = [] }
 at_ledger name answer unknown (ledger ∷ rest) =
-    if bytes_eq name ledger.name then first_answers ledger rest (answer ledger) else behind ledger (at_ledger name answer unknown rest)
+    if bytes_eq name ledger.name
+    then first_answers ledger rest (answer ledger)
+    else behind ledger (at_ledger name answer unknown rest)
 
 abbrev pub with_ledgers : World → LedgersStep → Step
-with_ledgers world step = record { reply = step.reply; world = record { ledgers = step.ledgers; log = world.log } }
+with_ledgers world step =
+    record { reply = step.reply; world = record { ledgers = step.ledgers; log = world.log } }
 
 abbrev pub with_log : World → LogAnswer → Step
-with_log world answer = record { reply = answer.reply; world = record { ledgers = world.ledgers; log = answer.log } }
+with_log world answer =
+    record { reply = answer.reply; world = record { ledgers = world.ledgers; log = answer.log } }
 
 abbrev pub act_at : World → List ℕ → (LedgerTold → Answer) → Step
-act_at world name answer = with_ledgers world (at_ledger name answer (RefusedAct act.UnknownDeal) world.ledgers)
+act_at world name answer =
+    with_ledgers world (at_ledger name answer (RefusedAct act.UnknownDeal) world.ledgers)
 
 -- the step of an event whose numbers fit their fields
 abbrev pub step_of : List Declaration → World → Event → Step
-step_of ds world (Register ledger deal party) = act_at world ledger (register_answer (members_of ds deal) deal party)
-step_of ds world (Escrow ledger deal party asset amount) = act_at world ledger (escrow_answer deal party asset amount)
-step_of ds world (Transfer ledger deal from turn to asset amount) = act_at world ledger (transfer_answer deal from (unwrap_or turn 0) to asset amount)
-step_of ds world (Start deal party) = with_log world (start_answer (members_of ds deal) deal party world.log)
-step_of ds world (Commit deal party) = with_log world (vote_answer (members_of ds deal) ToCommit deal party world.log)
-step_of ds world (Abort deal party) = with_log world (vote_answer (members_of ds deal) ToAbort deal party world.log)
+step_of ds world (Register ledger deal party) =
+    act_at world ledger (register_answer (members_of ds deal) deal party)
+step_of ds world (Escrow ledger deal party asset amount) =
+    act_at world ledger (escrow_answer deal party asset amount)
+step_of ds world (Transfer ledger deal from turn to asset amount) =
+    act_at world ledger (transfer_answer deal from (unwrap_or turn 0) to asset amount)
+step_of ds world (Start deal party) =
+    with_log world (start_answer (members_of ds deal) deal party world.log)
+step_of ds world (Commit deal party) =
+    with_log world (vote_answer (members_of ds deal) ToCommit deal party world.log)
+step_of ds world (Abort deal party) =
+    with_log world (vote_answer (members_of ds deal) ToAbort deal party world.log)
 step_of ds world (Claim ledger deal len) =
-    with_ledgers world (at_ledger ledger (claim_answer world.log.entries deal (unwrap_or len 0)) (RefusedClaim claim.UnknownDeal) world.ledgers)
+    with_ledgers world
+    (at_ledger ledger (claim_answer world.log.entries deal (unwrap_or len 0))
+    (RefusedClaim claim.UnknownDeal) world.ledgers)

@@ -10,7 +10,8 @@ use Rattle.plain_core.specs.Ids.{plain_id}
 -- the row that a declaration opens on the ledger, if it does
 abbrev pub rows_by : List ℕ → Declaration → List Row
 rows_by on (Ledger name) = []
-rows_by on (Open ledger asset party amount) = if bytes_eq on ledger then (plain_id party, asset, amount) ∷ [] else []
+rows_by on (Open ledger asset party amount) =
+    if bytes_eq on ledger then (plain_id party, asset, amount) ∷ [] else []
 rows_by on (Deal name parties) = []
 
 -- the rows of the ledger, in the order of their lines

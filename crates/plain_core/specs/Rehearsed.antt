@@ -14,8 +14,10 @@ answered_halt NoMemory = NoMemory
 answered_halt (RefusedAt line rule) = RefusedAt line (answered rule)
 
 -- The event happened, with its line behind the text before it, or it was refused.
-abbrev pub Happens : {T : Type 0} → Result T PlainHalt → (before after : List ℕ) → World → Result Report Refused → Type 0
-Happens (Ok done) before after world step = told_behind before step ≡ Ok (record { text = after; world = world })
+abbrev pub Happens : {T : Type 0} → Result T PlainHalt → (before after : List ℕ) → World
+    → Result Report Refused → Type 0
+Happens (Ok done) before after world step =
+    told_behind before step ≡ Ok (record { text = after; world = world })
 Happens (Err halt) before after world step = Halts halt step
 
 -- the text and the world are those of the run

@@ -45,8 +45,12 @@ told_behind text (Ok report) = Ok (record { text = text ++ report.text; world = 
 -- what one event comes to
 abbrev pub happened_of : List Declaration → World → Numbered → Result Report Refused
 happened_of ds world happened =
-    if is_out_of_range world happened.event then Err (record { line = happened.line; rule = OutOfRange })
-    else Ok (record { text = reply_line happened.line (step_of ds world happened.event).reply; world = (step_of ds world happened.event).world })
+    if is_out_of_range world happened.event
+    then Err (record { line = happened.line; rule = OutOfRange })
+    else Ok (record {
+      text = reply_line happened.line (step_of ds world happened.event).reply;
+      world = (step_of ds world happened.event).world;
+    })
 
 -- the report goes on in the world that it left
 abbrev pub goes_on : Result Report Refused → (World → Result Report Refused) → Result Report Refused
@@ -55,7 +59,8 @@ goes_on (Ok report) more = told_behind report.text (more report.world)
 
 abbrev pub run_from : List Declaration → World → List Numbered → Result Report Refused
 run_from ds world [] = Ok (record { text = []; world = world })
-run_from ds world (happened ∷ rest) = goes_on (happened_of ds world happened) (λ next. run_from ds next rest)
+run_from ds world (happened ∷ rest) =
+    goes_on (happened_of ds world happened) (λ next. run_from ds next rest)
 
 -- the whole report
 abbrev pub whole_report : List Declaration → Result Report Refused → Result (List ℕ) Refused
@@ -63,7 +68,9 @@ whole_report ds (Err refused) = Err refused
 whole_report ds (Ok report) = Ok (report.text ++ tables_text ds report.world)
 
 abbrev pub report_of : ScriptTold → Result (List ℕ) Refused
-report_of script = whole_report script.declarations (run_from script.declarations (started_world script.declarations) script.events)
+report_of script =
+    whole_report script.declarations
+    (run_from script.declarations (started_world script.declarations) script.events)
 
 -- A refused line is answered by its number and the rule that this build answers.
 abbrev pub answered_line : Refused → Refused

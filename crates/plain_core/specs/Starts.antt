@@ -14,4 +14,8 @@ started_ledger ds name = record { name = name; history = started (rows_of ds nam
 
 -- the ledgers in the order of their lines, and an empty log
 abbrev pub started_world : List Declaration → World
-started_world ds = record { ledgers = map (started_ledger ds) (ledger_names ds); log = record { entries = []; limit = most_records } }
+started_world ds =
+    record {
+      ledgers = map (started_ledger ds) (ledger_names ds);
+      log = record { entries = []; limit = most_records };
+    }

@@ -19,30 +19,38 @@ use Rattle.plain_core.specs.declared.tables.Rows.TheVariants.{Free, Held, Paid}
 -- what the account can spend of the asset, where that is anything
 abbrev pub free_row : List ℕ → List ℕ → ℕ → List ℕ
 free_row asset account amount =
-    if nat_lt 0 amount then codes "free " ++ asset ++ (32 ∷ account) ++ (32 ∷ decimal amount) ++ 10 ∷ [] else []
+    if nat_lt 0 amount
+    then codes "free " ++ asset ++ (32 ∷ account) ++ (32 ∷ decimal amount) ++ 10 ∷ [] else []
 
--- what the party owns in the deal of the asset if the deal commits and if it aborts, where either is anything
+-- what the party owns in the deal of the asset if the deal commits and if it aborts, where either
+-- is anything
 abbrev pub hold_row : List ℕ → List ℕ → List ℕ → ℕ → ℕ → List ℕ
 hold_row deal asset party commit abort =
     if nat_lt 0 commit || nat_lt 0 abort
-    then codes "hold " ++ deal ++ (32 ∷ asset) ++ (32 ∷ party) ++ (32 ∷ decimal commit) ++ (32 ∷ decimal abort) ++ 10 ∷ []
+    then codes "hold " ++ deal ++ (32 ∷ asset) ++ (32 ∷ party) ++ (32 ∷ decimal commit)
+    ++ (32 ∷ decimal abort) ++ 10 ∷ []
     else []
 
 -- what the party was paid of the asset when the deal ended, where that is anything
 abbrev pub paid_row : List ℕ → List ℕ → List ℕ → ℕ → List ℕ
 paid_row deal asset party amount =
-    if nat_lt 0 amount then codes "paid " ++ deal ++ (32 ∷ asset) ++ (32 ∷ party) ++ (32 ∷ decimal amount) ++ 10 ∷ [] else []
+    if nat_lt 0 amount
+    then codes "paid " ++ deal ++ (32 ∷ asset) ++ (32 ∷ party) ++ (32 ∷ decimal amount)
+    ++ 10 ∷ [] else []
 
 -- the row of that kind which a ledger has for an asset and a party
 abbrev pub row_text : Rows → History → List ℕ → List ℕ → List ℕ
 row_text Free h asset party = free_row asset party (free_of h (plain_id party) asset)
 row_text (Held deal) h asset party =
-    hold_row deal asset party (if_commit_of h (plain_id deal) (plain_id party) asset) (if_abort_of h (plain_id deal) (plain_id party) asset)
-row_text (Paid deal outcome) h asset party = paid_row deal asset party (payout_of h (plain_id deal) outcome (plain_id party) asset)
+    hold_row deal asset party (if_commit_of h (plain_id deal) (plain_id party) asset)
+    (if_abort_of h (plain_id deal) (plain_id party) asset)
+row_text (Paid deal outcome) h asset party =
+    paid_row deal asset party (payout_of h (plain_id deal) outcome (plain_id party) asset)
 
 -- the rows of that kind, by asset and then by party
 abbrev pub rows_text : Rows → History → List (List ℕ) → List (List ℕ) → List ℕ
-rows_text rows h assets parties = flat_map (λ asset. flat_map (row_text rows h asset) parties) assets
+rows_text rows h assets parties =
+    flat_map (λ asset. flat_map (row_text rows h asset) parties) assets
 
 -- the assets of a ledger are those of its opening rows
 abbrev pub assets_of : History → List (List ℕ)
@@ -52,12 +60,18 @@ assets_of h = in_order (map (λ row. row.1) h.opening)
 
 -- an open deal with what is held in it, or a settled one with what was paid
 abbrev pub deal_lines : History → List (List ℕ) → List ℕ → List (List ℕ) → Option Outcome → List ℕ
-deal_lines h assets deal members None = codes "deal " ++ deal ++ codes " open" ++ (10 ∷ []) ++ rows_text (Held deal) h assets members
-deal_lines h assets deal members (Some outcome) = codes "deal " ++ deal ++ (32 ∷ outcome_text outcome) ++ (10 ∷ []) ++ rows_text (Paid deal outcome) h assets members
+deal_lines h assets deal members None =
+    codes "deal " ++ deal ++ codes " open" ++ (10 ∷ []) ++ rows_text (Held deal) h assets members
+deal_lines h assets deal members (Some outcome) =
+    codes "deal " ++ deal ++ (32 ∷ outcome_text outcome) ++ (10 ∷ [])
+    ++ rows_text (Paid deal outcome) h assets members
 
 -- nothing for a deal that isn't registered here
 abbrev pub deal_text : List Declaration → History → List (List ℕ) → List ℕ → List ℕ
-deal_text ds h assets deal = if is_known h (plain_id deal) then deal_lines h assets deal (in_order (members_of ds deal)) (settlement_of h (plain_id deal)) else []
+deal_text ds h assets deal =
+    if is_known h (plain_id deal)
+    then deal_lines h assets deal (in_order (members_of ds deal)) (settlement_of h (plain_id deal))
+    else []
 
 -- ---- ledgers
 
@@ -76,4 +90,5 @@ named_text ds ledgers name = found_text ds (find (λ ledger. bytes_eq name ledge
 
 -- the ledgers in the order of their names
 abbrev pub tables_text : List Declaration → World → List ℕ
-tables_text ds world = flat_map (named_text ds world.ledgers) (in_order (map (λ ledger. ledger.name) world.ledgers))
+tables_text ds world =
+    flat_map (named_text ds world.ledgers) (in_order (map (λ ledger. ledger.name) world.ledgers))

@@ -1,6 +1,7 @@
 //! A plain ledger.
 
 ghost use Rattle.std.specs.Prelude.{◌≡◌, ◌≢◌, ◌<◌, ◌≤◌, ◌^◌, ◌-◌, ◌+◌, List, map, length, IsTrue, IfOk};
+ghost use Rattle.escrow_book.specs.Base.{greatest_turn};
 ghost use Rattle.escrow_book.specs.Reached.{are_parties};
 ghost use Rattle.escrow_book.specs.declared.fault.BookFault.TheVariants.{NoMemory as WantOfMemory};
 ghost use Rattle.plain_core.specs.declared.reply.Reply.TheVariants.{RefusedAct as IsRefusedAct};
@@ -29,7 +30,8 @@ use std::alloc::Global;
 use std::marker::Model;
 use vote_log::{LogRecord, outcome};
 
-/// A ledger that reads the one log: its name, its book, and how many acts and settlements it has accepted.
+/// A ledger that reads the one log: its name, its book, and how many acts and settlements it has
+/// accepted.
 #[derive(Drop)]
 pub struct Ledger {
     name: Name,
@@ -38,14 +40,17 @@ pub struct Ledger {
 }
 
 impl Model for Ledger {
-    ghost use Rattle.std.specs.Prelude.{◌≤◌, length};
+    ghost use Rattle.std.specs.Prelude.{◌≡◌, ◌≤◌, length};
     ghost use Rattle.plain_core.specs.Ledgers.{LedgerTold};
 
     ghost Value = { LedgerTold };
 
     ghost view = { λ l. record { name = l.name; history = l.book; entries = l.entries } };
 
-    ghost invariant = { λ l. length l.book.changes ≤ l.entries };
+    ghost use Rattle.escrow_book.specs.Base.{nothing_carried};
+
+    ghost invariant = { λ l. (length l.book.changes ≤ l.entries)
+        × (l.book.carried ≡ nothing_carried) };
 }
 
 impl Ledger {
@@ -85,7 +90,7 @@ impl Ledger {
         deal: &Name,
         party: &Name,
     ) -> Result<Reply, NoMemory>
-        requires few { self.old.entries < 4294967295 }
+        requires few { self.old.entries < greatest_turn }
         requires formed { 0 < length members.now → IsTrue (are_parties (map plain_id members.now)) }
         ensures { Gives result self.new (register_answer members.now deal.now party.now self.old) }
     {
@@ -110,8 +115,9 @@ impl Ledger {
         asset: &Name,
         amount: u64,
     ) -> Result<Reply, NoMemory>
-        requires { self.old.entries < 4294967295 }
-        ensures { Gives result self.new (escrow_answer deal.now party.now asset.now amount self.old) }
+        requires { self.old.entries < greatest_turn }
+        ensures { Gives result self.new
+            (escrow_answer deal.now party.now asset.now amount self.old) }
     {
         match self
             .book
@@ -135,8 +141,9 @@ impl Ledger {
         asset: &Name,
         amount: u64,
     ) -> Result<Reply, NoMemory>
-        requires { self.old.entries < 4294967295 }
-        ensures { Gives result self.new (transfer_answer deal.now from.now turn to.now asset.now amount self.old) }
+        requires { self.old.entries < greatest_turn }
+        ensures { Gives result self.new
+            (transfer_answer deal.now from.now turn to.now asset.now amount self.old) }
     {
         match self.book.transfer(
             &plain_id(deal),
@@ -156,7 +163,7 @@ impl Ledger {
 
     /// The first `len` records of the log are shown, to settle the deal.
     pub fn claim(&mut self, records: &[LogRecord], deal: &Name, len: u32) -> Result<Reply, NoMemory>
-        requires few { self.old.entries < 4294967295 }
+        requires few { self.old.entries < greatest_turn }
         requires within { len ≤ length records.now }
         ensures { Gives result self.new (claim_answer records.now deal.now len self.old) }
     {
@@ -202,7 +209,8 @@ fn name_of(first: &Name, second: &Name, account: &Id) -> Name
 
 /// The reply to an act that the book refuses, where its accounts are those of the two names.
 fn refused(fault: BookFault, first: &Name, second: &Name) -> Result<Reply, NoMemory>
-    ensures { IfOk result (λ reply. (reply ≡ IsRefusedAct (act_refusal first.now second.now fault)) × (fault ≢ WantOfMemory)) }
+    ensures { IfOk result (λ reply. (reply ≡ IsRefusedAct (act_refusal first.now second.now fault))
+        × (fault ≢ WantOfMemory)) }
 {
     let refusal = match fault {
         BookFault::UnknownDeal => ActRefusal::UnknownDeal,

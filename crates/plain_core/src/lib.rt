@@ -1,20 +1,20 @@
-//! Plain scripts, where all ledgers read one log: what each event is answered, the final tables, and the
-//! whole report of a rehearsal.
+//! Plain scripts, where all ledgers read one log: what each event is answered, the final tables,
+//! and the whole report of a rehearsal.
 #![tactic(auto)]
 
 pub mod act_refusal;
 pub mod claim_refusal;
 mod ids;
 pub mod laws;
-pub mod ledger;
+mod ledger;
 pub mod log_refusal;
 mod openings;
 mod order;
-pub mod rehearsal;
+mod rehearsal;
 pub mod reply;
-pub mod tables;
+mod tables;
 mod voting;
-pub mod world;
+mod world;
 
 pub use act_refusal::ActRefusal;
 pub use claim_refusal::ClaimRefusal;

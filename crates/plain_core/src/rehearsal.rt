@@ -1,6 +1,7 @@
 //! Rehearsals of plain scripts.
 
-ghost use Rattle.std.specs.Prelude.{◌≡◌, ◌<◌, ◌++◌, [], length, string_bytes, OnOk};
+ghost use Rattle.std.specs.Prelude.{◌≡◌, ◌-◌, ◌<◌, ◌++◌, [], length, string_bytes, OnOk};
+ghost use Rattle.escrow_book.specs.Base.{greatest_turn};
 ghost use Rattle.plain_script.specs.Answers.{script_told};
 ghost use Rattle.plain_core.specs.Given.{AreWithin};
 ghost use Rattle.plain_core.specs.Starts.{started_world};
@@ -18,7 +19,8 @@ use std::fmt::Write;
 
 /// Writes the line of an event: the number of its line in the script, and the reply.
 fn write_reply(line: u32, reply: &Reply, out: &mut String) -> Result<(), NoMemory>
-    ensures { OnOk result (string_bytes out.new ≡ string_bytes out.old ++ reply_line line reply.now) }
+    ensures { OnOk result (string_bytes out.new
+        ≡ string_bytes out.old ++ reply_line line reply.now) }
 {
     write!(out, "{line} {reply}\n")?;
     Ok(())
@@ -32,8 +34,9 @@ fn happen(
     world: &mut World,
     out: &mut String,
 ) -> Result<(), PlainHalt>
-    requires { AreWithin 4294967294 world.old.ledgers }
-    ensures { Happens result (string_bytes out.old) (string_bytes out.new) world.new (happened_of declarations.now world.old happened.now) }
+    requires { AreWithin (greatest_turn - 1) world.old.ledgers }
+    ensures { Happens result (string_bytes out.old) (string_bytes out.new) world.new
+        (happened_of declarations.now world.old happened.now) }
 {
     let line = happened.line;
     if world.is_out_of_range(&happened.event) {
@@ -50,9 +53,11 @@ fn happen(
 
 /// Lets the events of the script happen, and writes a line for each.
 fn run(alloc: Global, script: &Script, out: &mut String) -> Result<World, PlainHalt>
-    requires few { length script.now.events < 4294967295 }
+    requires few { length script.now.events < greatest_turn }
     requires empty { string_bytes out.old ≡ [] }
-    ensures { GivesRun result (string_bytes out.new) (run_from script.now.declarations (started_world script.now.declarations) script.now.events) }
+    ensures { GivesRun result (string_bytes out.new)
+        (run_from script.now.declarations (started_world script.now.declarations)
+        script.now.events) }
 {
     let mut world = World::start(alloc, &script.declarations)?;
     for happened in script.events.as_slice() {
@@ -63,7 +68,7 @@ fn run(alloc: Global, script: &Script, out: &mut String) -> Result<World, PlainH
 
 /// The report of a script that was read.
 fn report(alloc: Global, script: &Script) -> Result<List<u8>, PlainHalt>
-    requires { length script.now.events < 4294967295 }
+    requires { length script.now.events < greatest_turn }
     ensures { GivesReport result (report_of (script_told script.now)) }
 {
     let mut text = String::new(alloc);
@@ -93,8 +98,9 @@ fn answered(halt: PlainHalt) -> PlainHalt
     }
 }
 
-/// Rehearses a plain script: the whole report, or the line that is refused. This is the first line that breaks a
-/// rule of the reading, and only where there is none the first event whose numbers are out of range.
+/// Rehearses a plain script: the whole report, or the line that is refused. This is the first line
+/// that breaks a rule of the reading, and only where there is none the first event whose numbers
+/// are out of range.
 pub fn rehearse_plain(alloc: Global, script: &[u8]) -> Result<List<u8>, PlainHalt>
     ensures { GivesReport result (rehearsal_of script.now) }
 {

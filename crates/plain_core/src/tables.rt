@@ -167,7 +167,8 @@ fn write_registered(
     out: &mut String,
 ) -> Result<(), NoMemory>
     ensures { OnOk result (string_bytes out.new ≡ string_bytes out.old
-        ++ deal_lines book.now assets.now deal.now parties.now (settlement_of book.now (plain_id deal.now))) }
+        ++ deal_lines book.now assets.now deal.now parties.now
+        (settlement_of book.now (plain_id deal.now))) }
 {
     let deal = *deal;
     match book.settlement(&plain_id(&deal)) {
@@ -211,7 +212,8 @@ fn write_deals(
     out: &mut String,
 ) -> Result<(), NoMemory>
     ensures { OnOk result (string_bytes out.new
-        ≡ string_bytes out.old ++ flat_map (deal_text declarations.now book.now assets.now) deals.now) }
+        ≡ string_bytes out.old
+        ++ flat_map (deal_text declarations.now book.now assets.now) deals.now) }
 {
     for deal in deals {
         write_deal(alloc, declarations, book, assets, deal, out)?;
@@ -311,7 +313,10 @@ fn write_ledgers(
 fn ledger_names(alloc: Global, ledgers: &[Ledger]) -> Result<Vec<Name>, NoMemory>
     ensures { IfOk result (λ names. names.items ≡ map (λ ledger. ledger.name) ledgers.now) }
 {
-    let names: Vec<Name> = ledgers.iter().map(|ledger| *ledger.name()).collect(alloc)?;
+    let mut names = Vec::new(alloc);
+    for ledger in ledgers {
+        names.push(*ledger.name())?;
+    }
     Ok(names)
 }
 

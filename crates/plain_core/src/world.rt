@@ -1,6 +1,7 @@
 //! All plain ledgers and the one log that they read.
 
-ghost use Rattle.std.specs.Prelude.{◌≡◌, ◌≤◌, length, position, false, IfOk};
+ghost use Rattle.std.specs.Prelude.{◌≡◌, ◌-◌, ◌≤◌, length, position, false, IfOk};
+ghost use Rattle.escrow_book.specs.Base.{greatest_turn};
 ghost use Rattle.std.specs.Str.{bytes_eq};
 ghost use Rattle.plain_script.specs.BoundNames.{members_of};
 ghost use Rattle.plain_core.specs.Given.{GivesStep, AreWithin};
@@ -97,8 +98,10 @@ impl World {
         deal: &Name,
         party: &Name,
     ) -> Result<Reply, NoMemory>
-        requires { AreWithin 4294967294 self.old.ledgers }
-        ensures { GivesStep result self.new (act_at self.old ledger.now (register_answer (members_of declarations.now deal.now) deal.now party.now)) }
+        requires { AreWithin (greatest_turn - 1) self.old.ledgers }
+        ensures { GivesStep result self.new
+            (act_at self.old ledger.now
+            (register_answer (members_of declarations.now deal.now) deal.now party.now)) }
     {
         match self.place_of(ledger) {
             None => Ok(Reply::RefusedAct(ActRefusal::UnknownDeal)),
@@ -119,8 +122,9 @@ impl World {
         asset: &Name,
         amount: u64,
     ) -> Result<Reply, NoMemory>
-        requires { AreWithin 4294967294 self.old.ledgers }
-        ensures { GivesStep result self.new (act_at self.old ledger.now (escrow_answer deal.now party.now asset.now amount)) }
+        requires { AreWithin (greatest_turn - 1) self.old.ledgers }
+        ensures { GivesStep result self.new
+            (act_at self.old ledger.now (escrow_answer deal.now party.now asset.now amount)) }
     {
         match self.place_of(ledger) {
             None => Ok(Reply::RefusedAct(ActRefusal::UnknownDeal)),
@@ -138,8 +142,10 @@ impl World {
         asset: &Name,
         amount: u64,
     ) -> Result<Reply, NoMemory>
-        requires { AreWithin 4294967294 self.old.ledgers }
-        ensures { GivesStep result self.new (act_at self.old ledger.now (transfer_answer deal.now from.now turn to.now asset.now amount)) }
+        requires { AreWithin (greatest_turn - 1) self.old.ledgers }
+        ensures { GivesStep result self.new
+            (act_at self.old ledger.now
+            (transfer_answer deal.now from.now turn to.now asset.now amount)) }
     {
         match self.place_of(ledger) {
             None => Ok(Reply::RefusedAct(ActRefusal::UnknownDeal)),
@@ -148,9 +154,12 @@ impl World {
     }
 
     fn claim(&mut self, ledger: &Name, deal: &Name, len: u32) -> Result<Reply, NoMemory>
-        requires few { AreWithin 4294967294 self.old.ledgers }
+        requires few { AreWithin (greatest_turn - 1) self.old.ledgers }
         requires within { len ≤ length self.old.log.entries }
-        ensures { GivesStep result self.new (with_ledgers self.old (at_ledger ledger.now (claim_answer self.old.log.entries deal.now len) (IsRefusedClaim IsUnknownDeal) self.old.ledgers)) }
+        ensures { GivesStep result self.new
+            (with_ledgers self.old
+            (at_ledger ledger.now (claim_answer self.old.log.entries deal.now len)
+            (IsRefusedClaim IsUnknownDeal) self.old.ledgers)) }
     {
         match self.place_of(ledger) {
             None => Ok(Reply::RefusedClaim(ClaimRefusal::UnknownDeal)),
@@ -164,7 +173,9 @@ impl World {
         deal: &Name,
         party: &Name,
     ) -> Result<Reply, NoMemory>
-        ensures { GivesStep result self.new (with_log self.old (start_answer (members_of declarations.now deal.now) deal.now party.now self.old.log)) }
+        ensures { GivesStep result self.new
+            (with_log self.old
+            (start_answer (members_of declarations.now deal.now) deal.now party.now self.old.log)) }
     {
         voting::start_deal(&mut self.log, declarations.members(deal), deal, party)
     }
@@ -176,7 +187,10 @@ impl World {
         deal: &Name,
         party: &Name,
     ) -> Result<Reply, NoMemory>
-        ensures { GivesStep result self.new (with_log self.old (vote_answer (members_of declarations.now deal.now) choice deal.now party.now self.old.log)) }
+        ensures { GivesStep result self.new
+            (with_log self.old
+            (vote_answer (members_of declarations.now deal.now) choice deal.now party.now
+            self.old.log)) }
     {
         voting::vote(
             &mut self.log,
@@ -208,7 +222,7 @@ impl World {
         declarations: &Declarations,
         event: &Event,
     ) -> Result<Reply, NoMemory>
-        requires few { AreWithin 4294967294 self.old.ledgers }
+        requires few { AreWithin (greatest_turn - 1) self.old.ledgers }
         requires in_range { is_out_of_range self.old event.now ≡ false }
         ensures { GivesStep result self.new (step_of declarations.now self.old event.now) }
     {

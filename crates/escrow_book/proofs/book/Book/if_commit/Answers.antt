@@ -1,7 +1,7 @@
 use Rattle.std.proofs.Common.{◌≡◌, ◌-◌, ◌≤◌, ap, ◌∙◌, arith}
-use Rattle.escrow_book.specs.Opening.{greatest_amount}
 use Rattle.escrow_book.specs.History.{History, if_commit_of, deal_came, deal_went}
-use Rattle.escrow_book.proofs.Reading.{all_changes, is_reached, deal_read}
+use Rattle.escrow_book.proofs.Steps.{base_of}
+use Rattle.escrow_book.proofs.Reading.{all_changes, is_grown, deal_read}
 use Rattle.escrow_book.proofs.Bounds.{if_commit_within}
 use Rattle.escrow_book.proofs.Cut.{nothing_is_cut}
 use Rattle.escrow_book.proofs.book.Book.if_commit.Goals as goal
@@ -18,13 +18,13 @@ difference c = ap (λ n. n - c.loop-entry.went) (sums c).0 ∙ ap (λ n. deal_ca
 pub overflow_sub-result : goal.overflow_sub-result
 overflow_sub-result c =
     let h : History = c.args.self.now in
-    let within : deal_went h c.args.deal.now c.args.party.now c.args.asset.now ≤ deal_came h c.args.deal.now c.args.party.now c.args.asset.now = (nothing_is_cut h.opening h.changes (is_reached _ h c.self.view_is c.self.invariant.reached)).in_deals c.args.deal.now c.args.party.now c.args.asset.now in
+    let within : deal_went h c.args.deal.now c.args.party.now c.args.asset.now ≤ deal_came h c.args.deal.now c.args.party.now c.args.asset.now = (nothing_is_cut (base_of h) h.changes (is_grown _ h c.self.view_is c.self.invariant.grown)).in_deals c.args.deal.now c.args.party.now c.args.asset.now in
     omega (arith, (sums c).0, (sums c).1)
 
 pub overflow_cast-result : goal.overflow_cast-result
 overflow_cast-result c =
     let h : History = c.args.self.now in
-    let within : if_commit_of h c.args.deal.now c.args.party.now c.args.asset.now ≤ greatest_amount = if_commit_within h.opening h.changes (is_reached _ h c.self.view_is c.self.invariant.reached) c.args.deal.now c.args.party.now c.args.asset.now in
+    let within : if_commit_of h c.args.deal.now c.args.party.now c.args.asset.now ≤ 18446744073709551615 = if_commit_within (base_of h) h.changes (is_grown _ h c.self.view_is c.self.invariant.grown) c.args.deal.now c.args.party.now c.args.asset.now in
     omega (arith, difference c)
 
 pub returns : goal.returns

@@ -5,7 +5,7 @@ use Rattle.escrow_book.specs.declared.change.Change.TheVariants.{Settled}
 use Rattle.escrow_book.specs.History.{History, with_change}
 use Rattle.escrow_book.specs.Refused.{deal_settled, settle_refusal}
 use Rattle.escrow_book.specs.Reached.{IsAccepted}
-use Rattle.escrow_book.specs.Kept.{with_outcome, with_end, history_kept}
+use Rattle.escrow_book.specs.Kept.{with_outcome, with_end, base_kept, history_kept}
 use Rattle.escrow_book.proofs.Keeping.{entry_of, kept_settled, kept_by_settlement, written_back}
 use Rattle.escrow_book.proofs.book.Book.settle.Goals as goal
 
@@ -24,12 +24,12 @@ free c = ap (λ o. option_or o (option_or (deal_settled c.args.self.now c.args.d
 
 pub invariant_of-self-2 : goal.invariant_of-self-2
 invariant_of-self-2 c =
-    let accepted : IsAccepted (history_kept c.self.inside.rows.items c.self.inside.entries.items) (Settled c.args.deal.now c.args.outcome) = subst (λ (h : History). IsAccepted h (Settled c.args.deal.now c.args.outcome)) (sym c.self.view_is) (free c) in
-    let kept = kept_by_settlement (history_kept c.self.inside.rows.items c.self.inside.entries.items) c.self.inside.entries.items c.self.inside.deals.items c.args.deal.now c.args.outcome c.self.invariant accepted in
-    rw (entries c, deals c, kept_settled) kept
+    let accepted : IsAccepted (history_kept (base_kept c.self.inside.rows.items c.self.inside.deals_before.items c.self.inside.holds_before.items c.self.inside.moves_before.items) c.self.inside.entries.items) (Settled c.args.deal.now c.args.outcome) = subst (λ (h : History). IsAccepted h (Settled c.args.deal.now c.args.outcome)) (sym c.self.view_is) (free c) in
+    let kept = kept_by_settlement (history_kept (base_kept c.self.inside.rows.items c.self.inside.deals_before.items c.self.inside.holds_before.items c.self.inside.moves_before.items) c.self.inside.entries.items) c.self.inside.entries.items c.self.inside.deals.items c.args.deal.now c.args.outcome c.self.invariant accepted in
+    rw (entries c, deals c, kept_settled (base_kept c.self.inside.rows.items c.self.inside.deals_before.items c.self.inside.holds_before.items c.self.inside.moves_before.items) c.self.inside.entries.items c.args.deal.now c.args.outcome) kept
 
 pub returns-clause-ok : goal.returns-clause-ok
 returns-clause-ok c = (
   free c,
-  ap (history_kept c.self.inside.rows.items) (entries c) ∙ (kept_settled c.self.inside.rows.items c.self.inside.entries.items c.args.deal.now c.args.outcome ∙ ap (λ (h : History). with_change h (Settled c.args.deal.now c.args.outcome)) c.self.view_is),
+  ap (history_kept (base_kept c.self.inside.rows.items c.self.inside.deals_before.items c.self.inside.holds_before.items c.self.inside.moves_before.items)) (entries c) ∙ (kept_settled (base_kept c.self.inside.rows.items c.self.inside.deals_before.items c.self.inside.holds_before.items c.self.inside.moves_before.items) c.self.inside.entries.items c.args.deal.now c.args.outcome ∙ ap (λ (h : History). with_change h (Settled c.args.deal.now c.args.outcome)) c.self.view_is),
 )
