@@ -1,7 +1,7 @@
 -- What stands on the ledger of a name stands there to the end.
 use Rattle.std.proofs.Common.{◌≡◌, ℕ, Bool, true, false, cond, Option, Some, None, List, [], ◌∷◌, ◌++◌, refl, sym, ap, subst, ◌∙◌, inl, inr, ◌⊎◌}
 use Rattle.std.specs.Prelude.{find, Contains}
-use Rattle.std.specs.Option.{option_or}
+use Rattle.std.specs.Option.{option_or, unwrap_or}
 use Rattle.std.specs.Str.{bytes_eq}
 use Rattle.std.proofs.lemmas.Slice.Eq.{bytes_eq-Decides}
 use Rattle.dh_base.specs.declared.id.Id.{Id}
@@ -17,7 +17,7 @@ use Rattle.plain_script.specs.Rules.{DeclareByRules}
 use Rattle.plain_script.specs.declared.declaration.Declaration.{Declaration}
 use Rattle.plain_script.specs.declared.event.Event.{Event}
 use Rattle.plain_script.specs.declared.event.Event.TheVariants.{Register, Escrow, Transfer, Start, Commit, Abort, Claim}
-use Rattle.plain_core.specs.Ledgers.{LedgerTold, World, Answer, first_answers, behind, at_ledger, number_or_zero, register_answer, escrow_answer, transfer_answer, step_of}
+use Rattle.plain_core.specs.Ledgers.{LedgerTold, World, Answer, first_answers, behind, at_ledger, register_answer, escrow_answer, transfer_answer, step_of}
 use Rattle.plain_core.specs.declared.reply.Reply.{Reply}
 use Rattle.plain_core.specs.declared.reply.Reply.TheVariants.{RefusedAct, RefusedClaim}
 use Rattle.plain_core.specs.declared.act_refusal.ActRefusal.TheVariants.{UnknownDeal as UnknownAct}
@@ -76,8 +76,8 @@ named_goes_on name other f unknown (l ∷ ls) old follows found = at (is_named o
 pub step_named : GrowthLaws → (ds : List Declaration) → DeclareByRules [] ds → (world : World) (event : Event) (name : List ℕ) (old : LedgerTold) → find (is_named name) world.ledgers ≡ Some old → GoesOn name old (step_of ds world event).world.ledgers
 step_named laws ds keep world (Register ledger deal party) name old found = named_goes_on name ledger (register_answer (members_of ds deal) deal party) (RefusedAct UnknownAct) world.ledgers old (λ l. (register_quiet laws ds deal party keep l).follows) found
 step_named laws ds keep world (Escrow ledger deal party asset amount) name old found = named_goes_on name ledger (escrow_answer deal party asset amount) (RefusedAct UnknownAct) world.ledgers old (λ l. (escrow_quiet laws deal party asset amount l).follows) found
-step_named laws ds keep world (Transfer ledger deal from turn to asset amount) name old found = named_goes_on name ledger (transfer_answer deal from (number_or_zero turn) to asset amount) (RefusedAct UnknownAct) world.ledgers old (λ l. (transfer_quiet laws deal from (number_or_zero turn) to asset amount l).follows) found
+step_named laws ds keep world (Transfer ledger deal from turn to asset amount) name old found = named_goes_on name ledger (transfer_answer deal from (unwrap_or turn 0) to asset amount) (RefusedAct UnknownAct) world.ledgers old (λ l. (transfer_quiet laws deal from (unwrap_or turn 0) to asset amount l).follows) found
 step_named laws ds keep world (Start deal party) name old found = (old, found, stays old)
 step_named laws ds keep world (Commit deal party) name old found = (old, found, stays old)
 step_named laws ds keep world (Abort deal party) name old found = (old, found, stays old)
-step_named laws ds keep world (Claim ledger deal len) name old found = named_goes_on name ledger (claim_at world deal (number_or_zero len)) (RefusedClaim UnknownDeal) world.ledgers old (λ l. claim_follows laws world.log.entries deal (number_or_zero len) l) found
+step_named laws ds keep world (Claim ledger deal len) name old found = named_goes_on name ledger (claim_at world deal (unwrap_or len 0)) (RefusedClaim UnknownDeal) world.ledgers old (λ l. claim_follows laws world.log.entries deal (unwrap_or len 0) l) found
