@@ -1,0 +1,17 @@
+//! Validator sets, as texts: who vouches for the log. A set has an epoch and 3f + 1 seats, of which up to f
+//! may deviate; its id is the digest of its text, and the id of the set of epoch 0 names a house.
+//!
+//! [`read_set`] and [`write_set`] lead between a set and its one text, and [`set_id`] gives its id.
+#![tactic(auto)]
+
+pub mod laws;
+pub mod set;
+pub mod set_fault;
+pub mod set_text;
+
+pub use set::Set;
+pub use set_fault::SetFault;
+pub use set_text::{read_set, set_id, write_set};
+
+#[cfg(test)]
+mod tests;
