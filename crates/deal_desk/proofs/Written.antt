@@ -1,5 +1,6 @@
 -- A text is written piece by piece.
-use Rattle.std.proofs.Common.{◌≡◌, ℕ, ◌+◌, List, ◌++◌, take, drop, Option, Some, None, sym, ap, subst, ◌∙◌, append_assoc, take-add}
+use Rattle.std.proofs.Common.{◌≡◌, ℕ, ◌+◌, ◌≤◌, List, length, ◌++◌, take, drop, Option, Some, None, sym, ap, subst, ◌∙◌, append_assoc, take-add}
+use Rattle.std.proofs.lemmas.List.{take_all}
 use Rattle.std.specs.Io.KnownBytes.{Appends, Keeps}
 use Rattle.dh_base.specs.Faults.{HasRisen}
 use Rattle.dh_base.specs.Outside.{Seen, Gained, Rose}
@@ -31,9 +32,12 @@ front_grows text at n first now next front more = record {
   faults = more.faults ∙ front.faults;
 }
 
+pub rises_behind : (bytes : List ℕ) (first now next : Seen) → Gained first bytes now → Rose now next → HasRisen first.faults next.faults
+rises_behind bytes first now next gained rose = subst (λ (count : ℕ). HasRisen count next.faults) gained.faults rose.faults
+
 pub front_stays : (text : List ℕ) (at : ℕ) (first now next : Seen) → Gained first (take at text) now → Rose now next → WroteFront first text next
-front_stays text at first now next front rose = (
-  subst (λ (count : ℕ). HasRisen count next.faults) front.faults rose.faults,
-  at,
-  written_kept (take at text) first.written now.written next.written front.written rose.written,
-)
+front_stays text at first now next front rose =
+    (at, written_kept (take at text) first.written now.written next.written front.written rose.written)
+
+pub whole_gained : (text : List ℕ) (at : ℕ) (first now : Seen) → length text ≤ at → Gained first (take at text) now → Gained first text now
+whole_gained text at first now all gained = subst (λ (t : List ℕ). Gained first t now) (take_all at text all) gained

@@ -30,24 +30,22 @@ usage_text =
 abbrev pub Wrote : Seen → List ℕ → Seen → Type 0
 Wrote before text after = Gained before text after
 
--- a write failed, and the sink had gained the first bytes of the text, however many
+-- the sink gained the first bytes of the text, however many
 abbrev pub WroteFront : Seen → List ℕ → Seen → Type 0
-WroteFront before text after =
-    HasRisen before.faults after.faults
-    × (n : ℕ) × Appends before.written after.written (take n text)
+WroteFront before text after = (n : ℕ) × Appends before.written after.written (take n text)
 
 -- The text was written and the run ends as is wanted, or the sink failed on the way.
 abbrev pub Says : (wanted ending : Ending) → Seen → List ℕ → Seen → Type 0
 Says wanted ending before text after =
     ((ending ≡ wanted) × Wrote before text after)
-    ⊎ ((ending ≡ OutputFailed) × WroteFront before text after)
+    ⊎ ((ending ≡ OutputFailed) × HasRisen before.faults after.faults × WroteFront before text after)
 
 -- the whole answer was written by which the command ends so
 abbrev pub WroteAnswer : Command → List ℕ → Ending → (before after : Seen) → Type 0
 WroteAnswer command input ending before after =
     (text : List ℕ) × IsTheAnswer command input ending text × Wrote before text after
 
--- first bytes of the answer were written, and then a write failed
+-- first bytes of the answer were written
 abbrev pub WroteAnswerFront : Command → List ℕ → (before after : Seen) → Type 0
 WroteAnswerFront command input before after =
     (ending : Ending) × (text : List ℕ)
@@ -63,7 +61,8 @@ IsTold command (Refused line rule) input before after =
 IsTold command (RefusedDeal fault) input before after =
     WroteAnswer command input (RefusedDeal fault) before after
 IsTold command InputFailed input before after = Never
-IsTold command OutputFailed input before after = WroteAnswerFront command input before after
+IsTold command OutputFailed input before after =
+    HasRisen before.faults after.faults × WroteAnswerFront command input before after
 IsTold command NoMemory input before after = after ≡ before
 
 -- The input was read to its end, or to one byte more than an input may have, and what it told was

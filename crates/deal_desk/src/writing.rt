@@ -1,6 +1,7 @@
 //! Writing a text to a sink.
 
 ghost use Rattle.std.specs.Prelude.{◌<◌, ◌≤◌, ◌-◌, length, drop, take, IfOk, OnOk, OnErr};
+ghost use Rattle.dh_base.specs.Faults.{HasRisen};
 ghost use Rattle.dh_base.specs.Outside.{Gained, Rose};
 ghost use Rattle.deal_desk.specs.Endings.{Wrote, WroteFront};
 
@@ -20,6 +21,8 @@ fn write_from<K: Sink>(text: &[u8], at: usize, output: &mut K) -> Result<usize, 
 /// Writes the whole text, piece by piece.
 pub fn write_text<K: Sink>(text: &[u8], output: &mut K) -> Result<(), Failed>
     ensures wrote { OnOk result (Wrote (K.seen output.old) text.now (K.seen output.new)) }
+    ensures failed { OnErr result (
+        HasRisen (K.seen output.old).faults (K.seen output.new).faults) }
     ensures front { OnErr result (WroteFront (K.seen output.old) text.now (K.seen output.new)) }
 {
     let mut at = 0;

@@ -1,5 +1,5 @@
 use Rattle.std.proofs.Common.{arith}
-use Rattle.deal_desk.proofs.Written.{front_grows, front_stays}
+use Rattle.deal_desk.proofs.Written.{front_grows}
 use Rattle.deal_desk.proofs.writing.write_text.Goals as goal
 
 pub loop-at-preserved : goal.loop-at-preserved
