@@ -1,5 +1,8 @@
 //! The digests and the places were worked out outside, by a program of its own.
 
+ghost use Rattle.std.specs.Prelude.{◌≡◌, length, IfOk};
+ghost use Rattle.act_text.specs.ActTexts.{TextFits};
+
 use super::*;
 use dh_base::{Id, List, Name, NoMemory, Outcome, digest};
 use std::alloc::Global;
@@ -51,11 +54,15 @@ fn named(text: &[u8]) -> Result<Name, Fail> {
     Ok(Name::from_bytes(text)?)
 }
 
-fn deal_text(alloc: Global) -> Result<List<u8>, Fail> {
+fn deal_text(alloc: Global) -> Result<List<u8>, Fail>
+    ensures { IfOk result (λ text. length text ≡ 4) }
+{
     Ok(List::from_vec(Vec::from_slice(alloc, b"deal")?))
 }
 
-fn pay(amount: u64) -> Result<Act, Fail> {
+fn pay(amount: u64) -> Result<Act, Fail>
+    ensures { IfOk result (λ act. TextFits act) }
+{
     Ok(Act::Pay {
         house: HOUSE,
         ledger: named(b"coins")?,
@@ -65,7 +72,9 @@ fn pay(amount: u64) -> Result<Act, Fail> {
     })
 }
 
-fn escrow() -> Result<Act, Fail> {
+fn escrow() -> Result<Act, Fail>
+    ensures { IfOk result (λ act. TextFits act) }
+{
     Ok(Act::Escrow {
         deal: DEAL,
         ledger: named(b"coins")?,
@@ -74,7 +83,9 @@ fn escrow() -> Result<Act, Fail> {
     })
 }
 
-fn transfer() -> Result<Act, Fail> {
+fn transfer() -> Result<Act, Fail>
+    ensures { IfOk result (λ act. TextFits act) }
+{
     Ok(Act::Transfer {
         deal: DEAL,
         ledger: named(b"coins")?,
@@ -85,12 +96,21 @@ fn transfer() -> Result<Act, Fail> {
     })
 }
 
-fn vote() -> Act {
+fn vote() -> Act
+    ensures { TextFits result }
+{
     Act::Vote {
         deal: DEAL,
         index: 15,
         choice: Outcome::Abort,
     }
+}
+
+/// Whether the act has that text.
+fn has_text(alloc: Global, act: &Act, text: &[u8]) -> Result<bool, Fail>
+    requires { TextFits act.now }
+{
+    Ok(write_act(alloc, act)?.as_slice() == text)
 }
 
 /// The act has a text of that digest, which is read as an act of the office that has the same text.
@@ -100,11 +120,14 @@ fn goes_through(
     office: Office,
     act: &Act,
     expected: [u8; 32],
-) -> Result<(), Fail> {
+) -> Result<(), Fail>
+    requires { TextFits act.now }
+{
     let text = write_act(alloc, act)?;
     assert_eq!(rt; digest(text.as_slice()), Id(expected));
+    assert!(rt; text.len() < 100);
     let again = read_act(alloc, office, text.as_slice())?;
-    assert_eq!(rt; write_act(alloc, &again)?.as_slice(), text.as_slice());
+    assert!(rt; has_text(alloc, &again, text.as_slice())?);
     let other = match office {
         Office::Ledger => Office::Log,
         Office::Log => Office::Ledger,
@@ -142,6 +165,7 @@ fn acts_of_a_log_go_through_their_texts(rt: HostRuntime) -> Result<(), Fail> {
 
 /// The fault of the bytes of a payment, of which one is another and those behind a place are cut off.
 fn fault_of_payment(
+    rt: &impl Abort,
     alloc: Global,
     place: usize,
     byte: u8,
@@ -154,48 +178,52 @@ fn fault_of_payment(
     if len < text.len() {
         text.truncate(len);
     }
+    assert!(rt; text.len() < 100);
     Ok(read_act(alloc, Office::Ledger, &text).err())
 }
 
 #[test]
 fn the_first_field_at_fault_is_named(rt: HostRuntime) -> Result<(), Fail> {
     let alloc = rt.alloc();
-    assert_eq!(rt; fault_of_payment(alloc, 0, b'C', 92)?, None);
+    assert_eq!(rt; fault_of_payment(&rt, alloc, 0, b'C', 92)?, None);
     assert_eq!(rt;
-        fault_of_payment(alloc, 7, b'2', 92)?,
-        Some(ActFault::BadTag)
-    );
-    assert_eq!(rt; fault_of_payment(alloc, 8, 5, 92)?, Some(ActFault::BadTag));
-    assert_eq!(rt;
-        fault_of_payment(alloc, 0, b'C', 8)?,
+        fault_of_payment(&rt, alloc, 7, b'2', 92)?,
         Some(ActFault::BadTag)
     );
     assert_eq!(rt;
-        fault_of_payment(alloc, 0, b'C', 40)?,
+        fault_of_payment(&rt, alloc, 8, 5, 92)?,
+        Some(ActFault::BadTag)
+    );
+    assert_eq!(rt;
+        fault_of_payment(&rt, alloc, 0, b'C', 8)?,
+        Some(ActFault::BadTag)
+    );
+    assert_eq!(rt;
+        fault_of_payment(&rt, alloc, 0, b'C', 40)?,
         Some(ActFault::Short { at: 9 })
     );
     assert_eq!(rt;
-        fault_of_payment(alloc, 0, b'C', 46)?,
+        fault_of_payment(&rt, alloc, 0, b'C', 46)?,
         Some(ActFault::Short { at: 41 })
     );
     assert_eq!(rt;
-        fault_of_payment(alloc, 41, 0, 42)?,
+        fault_of_payment(&rt, alloc, 41, 0, 42)?,
         Some(ActFault::BadField { at: 41 })
     );
     assert_eq!(rt;
-        fault_of_payment(alloc, 42, b'1', 92)?,
+        fault_of_payment(&rt, alloc, 42, b'1', 92)?,
         Some(ActFault::BadField { at: 41 })
     );
     assert_eq!(rt;
-        fault_of_payment(alloc, 79, 17, 92)?,
+        fault_of_payment(&rt, alloc, 79, 17, 92)?,
         Some(ActFault::BadField { at: 79 })
     );
     assert_eq!(rt;
-        fault_of_payment(alloc, 84, 0x80, 92)?,
+        fault_of_payment(&rt, alloc, 84, 0x80, 92)?,
         Some(ActFault::BadField { at: 84 })
     );
     assert_eq!(rt;
-        fault_of_payment(alloc, 84, 0x80, 91)?,
+        fault_of_payment(&rt, alloc, 84, 0x80, 91)?,
         Some(ActFault::Short { at: 84 })
     );
     Ok(())
