@@ -3,6 +3,7 @@
 use super::*;
 use dh_base::Id;
 use std::alloc::Global;
+use std::process::Abort;
 use std::test::Fail;
 
 /// The digest of the text of the set below.
@@ -26,6 +27,7 @@ fn four_seats(alloc: Global) -> Result<Vec<u8>, Fail> {
 fn a_set_goes_through_its_text(rt: HostRuntime) -> Result<(), Fail> {
     let alloc = rt.alloc();
     let text = four_seats(alloc)?;
+    assert!(rt; text.len() < 1000);
     let set = read_set(&text)?;
     assert_eq!(rt; set.epoch, 7);
     assert_eq!(rt; set.f, 1);
@@ -36,7 +38,13 @@ fn a_set_goes_through_its_text(rt: HostRuntime) -> Result<(), Fail> {
 }
 
 /// The fault of the text of four seats, of which one byte is another and those behind a place are cut off.
-fn fault_at(alloc: Global, place: usize, byte: u8, len: usize) -> Result<Option<SetFault>, Fail> {
+fn fault_at(
+    rt: &impl Abort,
+    alloc: Global,
+    place: usize,
+    byte: u8,
+    len: usize,
+) -> Result<Option<SetFault>, Fail> {
     let mut text = four_seats(alloc)?;
     if place < text.len() {
         text[place] = byte;
@@ -44,26 +52,30 @@ fn fault_at(alloc: Global, place: usize, byte: u8, len: usize) -> Result<Option<
     if len < text.len() {
         text.truncate(len);
     }
+    assert!(rt; text.len() < 1000);
     Ok(read_set(&text).err())
 }
 
 #[test]
 fn the_first_thing_wrong_is_named(rt: HostRuntime) -> Result<(), Fail> {
     let alloc = rt.alloc();
-    assert_eq!(rt; fault_at(alloc, 0, b'C', 142)?, None);
-    assert_eq!(rt; fault_at(alloc, 7, b'2', 142)?, Some(SetFault::BadTag));
-    assert_eq!(rt; fault_at(alloc, 0, b'C', 7)?, Some(SetFault::BadTag));
+    assert_eq!(rt; fault_at(&rt, alloc, 0, b'C', 142)?, None);
+    assert_eq!(rt; fault_at(&rt, alloc, 7, b'2', 142)?, Some(SetFault::BadTag));
+    assert_eq!(rt; fault_at(&rt, alloc, 0, b'C', 7)?, Some(SetFault::BadTag));
     assert_eq!(rt;
-        fault_at(alloc, 0, b'C', 13)?,
+        fault_at(&rt, alloc, 0, b'C', 13)?,
         Some(SetFault::BadLength { len: 13 })
     );
-    assert_eq!(rt; fault_at(alloc, 13, 6, 14)?, Some(SetFault::BadF { f: 6 }));
     assert_eq!(rt;
-        fault_at(alloc, 13, 5, 142)?,
+        fault_at(&rt, alloc, 13, 6, 14)?,
+        Some(SetFault::BadF { f: 6 })
+    );
+    assert_eq!(rt;
+        fault_at(&rt, alloc, 13, 5, 142)?,
         Some(SetFault::BadLength { len: 142 })
     );
     assert_eq!(rt;
-        fault_at(alloc, 0, b'C', 141)?,
+        fault_at(&rt, alloc, 0, b'C', 141)?,
         Some(SetFault::BadLength { len: 141 })
     );
     Ok(())
