@@ -80,17 +80,3 @@ fn the_first_thing_wrong_is_named(rt: HostRuntime) -> Result<(), Fail> {
     );
     Ok(())
 }
-
-#[test]
-fn a_seat_of_an_earlier_account_is_named(rt: HostRuntime) -> Result<(), Fail> {
-    let alloc = rt.alloc();
-    let mut text = Vec::from_slice(alloc, b"CCDSET01\x00\x00\x00\x00\x00\x01")?;
-    for account in [1, 2, 2, 1] {
-        text.extend_from_slice(&[account; 32])?;
-    }
-    assert_eq!(rt;
-        read_set(&text).err(),
-        Some(SetFault::SeatTwice { seat: 2 })
-    );
-    Ok(())
-}
