@@ -10,6 +10,7 @@ ghost use Rattle.keeper_sql.specs.CellRows.{IsKept, tables_in, told_by, schema_c
 ghost use Rattle.sqlite_trees.specs.Props.{IsAscending-prop};
 ghost use Rattle.std.proofs.Props.{props};
 
+use crate::adoption::adopted;
 use crate::changes::change;
 use crate::reads::{list, look};
 use crate::statements::create;
@@ -92,6 +93,34 @@ impl<S: Alter> SqlKeeper<S> {
         ensures { result ≡ self.now.looked }
     {
         self.looked
+    }
+}
+
+impl<S: Alter + Drop> SqlKeeper<S> {
+    /// A keeper over an open connection, whose database has the keeper's table and nothing else, or nothing at all; then
+    /// the table is made. Its count of faults begins at the number that is handed in. The connection is opened anew, so
+    /// what it has not committed is given up; where the call is refused, the connection is.
+    pub fn adopt(
+        alloc: Global,
+        connection: Connection<S>,
+        faults: &mut u64,
+    ) -> Result<SqlKeeper<S>, KeepFault>
+        ensures map { IfOk result (λ k. IfSome (told_by (state S.Store k.conn))
+            (λ tables. tables ≡ tables_in (state S.Store connection).committed)) }
+        ensures begins { IfOk result (λ k. (k.faults ≡ faults.new) × (k.looked ≡ 0)) }
+        ensures quiet { OnOk result (faults.new ≡ faults.old) }
+        ensures failed { IsErrOf result KeepFault.Failed → HasRisen faults.old faults.new }
+        ensures no_memory { IsErrOf result KeepFault.NoMemory → faults.new ≡ faults.old }
+    {
+        match adopted(alloc, connection) {
+            Ok(conn) => Ok(SqlKeeper {
+                conn,
+                alloc,
+                faults: *faults,
+                looked: 0,
+            }),
+            Err(error) => Err(refusal(error, faults)),
+        }
     }
 }
 

@@ -5,7 +5,7 @@ ghost use Rattle.std.specs.FinMap as finite;
 ghost use Rattle.sqlite.specs.Held.{state};
 ghost use Rattle.sqlite.specs.State.{HasCleanDisk, KeepsCommit, Survives, ExecutesInside, FailsToQuery, Shown};
 ghost use Rattle.sqlite.specs.declared.types.Value.TheVariants.{Int, Blob};
-ghost use Rattle.keeper_sql.specs.Statements.{no_schema, get_text, scan_text, put_text, del_text};
+ghost use Rattle.keeper_sql.specs.Statements.{no_schema, get_text, scan_text, put_text, del_text, stray_text};
 ghost use Rattle.keeper_sql.specs.CellRows.{IsKept, tables_in};
 
 use sqlite::{Alter, Connection, Error, Row, Transaction, params};
@@ -19,6 +19,8 @@ const SCAN: &str = "SELECT key, val FROM cell WHERE tab = ?1 ORDER BY key";
 
 const PUT: &str =
     "INSERT INTO cell(tab, key, val) VALUES (?1, ?2, ?3) ON CONFLICT(tab, key) DO UPDATE SET val = excluded.val";
+
+const STRAYS: &str = "SELECT tab FROM cell WHERE tab < 0 OR tab > 255";
 
 const DELETE: &str = "DELETE FROM cell WHERE tab = ?1 AND key = ?2";
 
@@ -101,6 +103,17 @@ pub(crate) fn create<S: Alter>(conn: &mut Connection<S>) -> Result<usize, Error>
         → OnOk result (IsKept (state S.Store conn.new).now
         × (tables_in (state S.Store conn.new).now ≡ finite.empty)
         × (conn.new.in_transaction ≡ false)) }
+    ensures clean { HasCleanDisk (state S.Store conn.new) → HasCleanDisk (state S.Store conn.old) }
 {
     conn.execute(CREATE, &[])
+}
+
+/// Runs the selection of the rows whose number is none that a table of a keeper has.
+pub(crate) fn run_strays<S: Alter>(conn: &mut Connection<S>) -> Result<Vec<Row>, Error>
+    ensures shown { HasCleanDisk (state S.Store conn.new) → IfOk result (λ rows.
+        Shown stray_text [] (state S.Store conn.old) (state S.Store conn.new) rows.items) }
+    ensures clean { HasCleanDisk (state S.Store conn.new) → HasCleanDisk (state S.Store conn.old) }
+    ensures idle { conn.old.in_transaction ≡ false → conn.new.in_transaction ≡ false }
+{
+    conn.query_all(STRAYS, &[])
 }
