@@ -49,7 +49,8 @@ any_choice_from bytes at = or_fault act_fault_of (next_number w8 bytes at)
 
 -- the byte of a choice, 2 or 3
 abbrev pub choice_byte_from : List ℕ → ℕ → Result (ℕ × ℕ) ActFault
-choice_byte_from = unless_out_of_range (λ byte. nat_lt byte 2 || nat_lt 3 byte) BadField any_choice_from
+choice_byte_from =
+    unless_out_of_range (λ byte. nat_lt byte 2 || nat_lt 3 byte) BadField any_choice_from
 
 abbrev pub choice_of : ℕ → Outcome
 choice_of byte = if byte == 2 then Commit else Abort

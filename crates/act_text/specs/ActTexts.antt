@@ -61,7 +61,8 @@ act_fields (Pay house ledger to asset amount) =
 act_fields (Escrow deal ledger asset amount) =
     deal.0 ++ (name_field ledger ++ (name_field asset ++ to_be_bytes w64 amount))
 act_fields (Transfer deal ledger turn to asset amount) =
-    deal.0 ++ (name_field ledger ++ (to_be_bytes w32 turn ++ (to.0 ++ (name_field asset ++ to_be_bytes w64 amount))))
+    deal.0 ++ (name_field ledger ++ (to_be_bytes w32 turn ++ (to.0
+    ++ (name_field asset ++ to_be_bytes w64 amount))))
 act_fields (StartDeal text) = text_field text
 act_fields (Vote deal index choice) = deal.0 ++ (to_be_bytes w16 index ++ (choice_byte choice ∷ []))
 
@@ -87,8 +88,10 @@ TextFits act = Unit {0}
 -- what has a text
 abbrev pub ActFits : Act → Type 0
 ActFits (Register text) = length text < 2 ^ 32
-ActFits (Pay house ledger to asset amount) = IsId house × IsName ledger × IsId to × IsName asset × IsAmount amount
-ActFits (Escrow deal ledger asset amount) = IsId deal × IsName ledger × IsName asset × IsAmount amount
+ActFits (Pay house ledger to asset amount) =
+    IsId house × IsName ledger × IsId to × IsName asset × IsAmount amount
+ActFits (Escrow deal ledger asset amount) =
+    IsId deal × IsName ledger × IsName asset × IsAmount amount
 ActFits (Transfer deal ledger turn to asset amount) =
     IsId deal × IsName ledger × (turn < 2 ^ 32) × IsId to × IsName asset × IsAmount amount
 ActFits (StartDeal text) = length text < 2 ^ 32

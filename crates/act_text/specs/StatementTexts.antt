@@ -22,5 +22,6 @@ row_text row = name_field row.asset ++ to_be_bytes w64 row.amount
 
 abbrev pub statement_text : Statement → List ℕ
 statement_text s =
-    statement_tag ++ s.house.0 ++ name_field s.ledger ++ s.deal.0 ++ s.party.0 ++ to_be_bytes w64 s.at
-    ++ to_be_bytes w32 s.moves ++ (settled_byte s.settled ∷ []) ++ to_be_bytes w16 (length s.rows) ++ flat_map row_text s.rows
+    statement_tag ++ s.house.0 ++ name_field s.ledger ++ s.deal.0 ++ s.party.0
+    ++ to_be_bytes w64 s.at ++ to_be_bytes w32 s.moves ++ (settled_byte s.settled ∷ [])
+    ++ to_be_bytes w16 (length s.rows) ++ flat_map row_text s.rows

@@ -24,8 +24,8 @@ pub enum Act {
         asset: Name,
         amount: u64,
     },
-    /// Moves what is escrowed in a deal to another of its parties, tentatively. Turns count the sender's
-    /// transfers of the deal on that ledger from 0.
+    /// Moves what is escrowed in a deal to another of its parties, tentatively. Turns count the
+    /// sender's transfers of the deal on that ledger from 0.
     Transfer {
         deal: Id,
         ledger: Name,

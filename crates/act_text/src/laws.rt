@@ -10,5 +10,6 @@ ghost use Rattle.act_text.specs.declared.office.Office.{Office};
 /// Bytes are read as an act of an office exactly where they are its text.
 pub fn acts_read()
     ensures { (office : Office) (bytes : List ℕ) (act : Act) → AreBytes bytes →
-        (act_of office bytes ≡ Ok act) ↔ ((office_of (kind_of act) ≡ office) × ActFits act × (bytes ≡ act_text act)) }
+        (act_of office bytes ≡ Ok act)
+        ↔ ((office_of (kind_of act) ≡ office) × ActFits act × (bytes ≡ act_text act)) }
 {}

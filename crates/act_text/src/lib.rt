@@ -1,9 +1,9 @@
-//! Acts and statements as texts. An act is what a holder signs: a ledger takes registrations, payments,
-//! escrows and transfers, a log of votes takes starts and votes. A statement is what a ledger tells a party
-//! of a deal.
+//! Acts and statements as texts. An act is what a holder signs: a ledger takes registrations,
+//! payments, escrows and transfers, a log of votes takes starts and votes. A statement is what a
+//! ledger tells a party of a deal.
 //!
-//! [`read_act`] and [`write_act`] lead between an act and its one text; [`write_statement`] gives the text of
-//! a statement. [`laws`] says that no other bytes are read.
+//! [`read_act`] and [`write_act`] lead between an act and its one text; [`write_statement`] gives
+//! the text of a statement. [`laws`] says that no other bytes are read.
 #![tactic(auto)]
 
 pub mod act;

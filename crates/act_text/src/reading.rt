@@ -189,9 +189,11 @@ fn take_whole(alloc: Global, office: Office, bytes: &[u8]) -> Result<Act, ActFau
 pub fn read_act(alloc: Global, office: Office, bytes: &[u8]) -> Result<Act, ActFault>
     requires { length bytes.now < 2 ^ 32 }
     // What is read is the office's, and is spelled so.
-    ensures found { IfOk result (λ act. (office_of (kind_of act) ≡ office) × ActFits act × (bytes.now ≡ act_text act)) }
+    ensures found { IfOk result (λ act. (office_of (kind_of act) ≡ office) × ActFits act
+        × (bytes.now ≡ act_text act)) }
     // What is spelled so is read, unless memory runs out.
-    ensures only { (act : Act) → office_of (kind_of act) ≡ office → ActFits act → bytes.now ≡ act_text act →
+    ensures only { (act : Act) → office_of (kind_of act) ≡ office → ActFits act
+        → bytes.now ≡ act_text act →
         Gives result (Ok act) }
     // Which field is the first at fault.
     ensures exact { Gives result (act_of office bytes.now) }

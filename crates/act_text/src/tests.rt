@@ -163,7 +163,8 @@ fn acts_of_a_log_go_through_their_texts(rt: HostRuntime) -> Result<(), Fail> {
     Ok(())
 }
 
-/// The fault of the bytes of a payment, of which one is another and those behind a place are cut off.
+/// The fault of the bytes of a payment, of which one is another and those behind a place are cut
+/// off.
 fn fault_of_payment(
     rt: &impl Abort,
     alloc: Global,

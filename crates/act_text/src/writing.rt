@@ -3,13 +3,14 @@
 ghost use Rattle.std.specs.Prelude.{◌≡◌, ◌++◌, ◌<◌, ◌^◌, List, length, IfOk, OnOk};
 ghost use Rattle.std.specs.List.{flat_map};
 ghost use Rattle.dh_base.specs.Fields.{name_field};
-ghost use Rattle.dh_base.specs.Formats.{text_field};
 ghost use Rattle.act_text.specs.ActTexts.{TextFits, act_fields, act_text, choice_byte, kind_of, number_of};
 ghost use Rattle.act_text.specs.StatementTexts.{row_text, settled_byte, statement_text};
 
 use crate::act::Act;
 use crate::statement::{HeldRow, Statement};
-use dh_base::{List, Name, NoMemory, Outcome, put_id, put_name, put_u8, put_u16, put_u32, put_u64};
+use dh_base::{
+    List, Name, NoMemory, Outcome, put_id, put_name, put_text, put_u8, put_u16, put_u32, put_u64,
+};
 use std::alloc::Global;
 
 /// What the text of an act begins with.
@@ -53,19 +54,10 @@ fn settled_number(settled: Option<Outcome>) -> u8
     }
 }
 
-/// Appends a text behind its length.
-fn put_text(out: &mut Vec<u8>, text: &[u8]) -> Result<(), NoMemory>
-    requires { length text.now < 2 ^ 32 }
-    ensures { OnOk result (out.new.items ≡ out.old.items ++ text_field text.now) }
-{
-    put_u32(out, text.len() as u32)?;
-    out.extend_from_slice(text)?;
-    Ok(())
-}
-
 /// Appends an amount behind its asset.
 fn put_held(out: &mut Vec<u8>, asset: &Name, amount: u64) -> Result<(), NoMemory>
-    ensures { OnOk result (out.new.items ≡ out.old.items ++ row_text (record { asset = asset.now; amount = amount })) }
+    ensures { OnOk result (out.new.items
+        ≡ out.old.items ++ row_text (record { asset = asset.now; amount = amount })) }
 {
     put_name(out, asset)?;
     put_u64(out, amount)?;

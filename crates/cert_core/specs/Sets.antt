@@ -32,7 +32,8 @@ is_among accounts account = list_any (λ other. bytes_eq other.0 account.0) acco
 -- no account stands among those before it
 abbrev pub AreNewBehind : List Id → List Id → Type 0
 AreNewBehind before [] = Unit {0}
-AreNewBehind before (account ∷ accounts) = (is_among before account ≡ false) × AreNewBehind (before ++ account ∷ []) accounts
+AreNewBehind before (account ∷ accounts) =
+    (is_among before account ≡ false) × AreNewBehind (before ++ account ∷ []) accounts
 
 abbrev pub AreDifferent : List Id → Type 0
 AreDifferent accounts = AreNewBehind [] accounts

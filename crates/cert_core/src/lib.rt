@@ -1,5 +1,6 @@
-//! Validator sets, as texts: who vouches for the log. A set has an epoch and 3f + 1 seats, of which up to f
-//! may deviate; its id is the digest of its text, and the id of the set of epoch 0 names a house.
+//! Validator sets, as texts: who vouches for the log. A set has an epoch and 3f + 1 seats, of which
+//! up to f may deviate; its id is the digest of its text, and the id of the set of epoch 0 names a
+//! house.
 //!
 //! [`read_set`] and [`write_set`] lead between a set and its one text, and [`set_id`] gives its id.
 #![tactic(auto)]

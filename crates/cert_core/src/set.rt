@@ -11,8 +11,8 @@ pub const MOST_SEATS: usize = 16;
 /// The most seats of a set that may deviate.
 pub const MOST_DEVIATING: u16 = 5;
 
-/// The validators of an epoch: 3f + 1 different accounts, of which at most f deviate. A contract sees the
-/// epoch, f and the list of the accounts, by their seats from 0.
+/// The validators of an epoch: 3f + 1 different accounts, of which at most f deviate. A contract
+/// sees the epoch, f and the list of the accounts, by their seats from 0.
 #[derive(Drop)]
 pub struct Set {
     pub epoch: u32,

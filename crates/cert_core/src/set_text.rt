@@ -43,7 +43,8 @@ pub fn write_set(alloc: Global, set: &Set) -> Result<List<u8>, NoMemory>
 
 /// Goes on with the hash of a text by these accounts.
 fn hash_accounts(hasher: &mut Sha256, accounts: &[Id])
-    ensures { (before : List ℕ) → Holds256 hasher.old before → Holds256 hasher.new (before ++ flat_map id_bytes accounts.now) }
+    ensures { (before : List ℕ) → Holds256 hasher.old before
+        → Holds256 hasher.new (before ++ flat_map id_bytes accounts.now) }
 {
     for account in accounts {
         hasher.update(account.0.as_slice());

@@ -12,8 +12,8 @@ const SET_ID: [u8; 32] = [
     0x3d, 0x38, 0x67, 0x40, 0x52, 0xac, 0xb6, 0xd0, 0x07, 0x58, 0x74, 0xfe, 0x3a, 0x73, 0x3c, 0x01,
 ];
 
-/// The text of the set of epoch 7 that lets one of four seats deviate, whose accounts are of ones, twos,
-/// threes and fours.
+/// The text of the set of epoch 7 that lets one of four seats deviate, whose accounts are of ones,
+/// twos, threes and fours.
 fn four_seats(alloc: Global) -> Result<Vec<u8>, Fail> {
     let mut text = Vec::from_slice(alloc, b"CCDSET01\x00\x00\x00\x07\x00\x01")?;
     text.extend_from_slice(&[1; 32])?;
@@ -37,7 +37,8 @@ fn a_set_goes_through_its_text(rt: HostRuntime) -> Result<(), Fail> {
     Ok(())
 }
 
-/// The fault of the text of four seats, of which one byte is another and those behind a place are cut off.
+/// The fault of the text of four seats, of which one byte is another and those behind a place are
+/// cut off.
 fn fault_at(
     rt: &impl Abort,
     alloc: Global,

@@ -1,6 +1,7 @@
 //! What a deal needs of a party, what it owes the party, and how often the party transfers.
 
 ghost use Rattle.std.specs.Prelude.{◌≡◌, ◌+◌, ◌≤◌, ◌<◌, ◌^◌, ℕ, length};
+ghost use Rattle.deal_core.specs.Limits.{most_steps};
 ghost use Rattle.clear_core.specs.Clearing.{outgoing, incoming, need_of, due_of, turns_of};
 ghost use Rattle.clear_core.specs.Holdings.{IsNeverBelowZero};
 
@@ -70,7 +71,7 @@ pub fn due(deal: &Deal, party: u16, ledger: &Name, asset: &Name) -> u64
 
 /// How many of the steps are the party's own on the ledger.
 pub(crate) fn count_turns(steps: &[Step], party: u16, ledger: &Name) -> u32
-    requires { length steps.now ≤ 64 }
+    requires { length steps.now ≤ most_steps }
     ensures { result ≡ turns_of steps.now party ledger.now }
 {
     let mut count = 0;

@@ -1,6 +1,7 @@
 //! The plan of a party.
 
 ghost use Rattle.std.specs.Prelude.{◌≡◌, ◌++◌, ◌≤◌, ◌<◌, [], ◌∷◌, length, IfOk, OnOk};
+ghost use Rattle.deal_core.specs.Limits.{most_steps};
 ghost use Rattle.clear_core.specs.Plans.{escrow_of, escrows_of, transfer_of, transfers_behind, plan_of};
 
 use crate::clearing::{count_turns, need};
@@ -56,7 +57,7 @@ fn push_transfer(
     step: &Step,
     acts: &mut Vec<PlanAct>,
 ) -> Result<(), NoMemory>
-    requires { length before.now ≤ 64 }
+    requires { length before.now ≤ most_steps }
     ensures { OnOk result (acts.new.items
         ≡ acts.old.items ++ transfer_of party before.now step.now) }
 {
@@ -74,7 +75,7 @@ fn push_transfer(
 
 /// Adds the transfers of the party's own steps.
 fn push_transfers(party: u16, steps: &[Step], acts: &mut Vec<PlanAct>) -> Result<(), NoMemory>
-    requires { length steps.now ≤ 64 }
+    requires { length steps.now ≤ most_steps }
     ensures { OnOk result (acts.new.items ≡ acts.old.items ++ transfers_behind party [] steps.now) }
 {
     for (place, step) in steps.iter().enumerate() {

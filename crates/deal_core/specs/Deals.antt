@@ -4,6 +4,7 @@ use Rattle.std.specs.Prelude.{ℕ, ◌≡◌, ◌+◌, ◌<◌, Bool, ◌&&◌, 
 use Rattle.std.specs.List.{sum_by, Contains, AllByRecursion}
 use Rattle.std.specs.Str.{bytes_eq}
 use Rattle.dh_base.specs.declared.id.Id.{Id}
+use Rattle.dh_base.specs.Ids.{same_id}
 use Rattle.deal_core.specs.declared.party.Party.{Party}
 use Rattle.deal_core.specs.declared.step.Step.{Step}
 
@@ -67,9 +68,6 @@ IsFirstApart steps parties party =
     × ((other : ℕ) → other < party → IsJoined steps other)
 
 -- ---- the indices of parties
-
-abbrev pub same_id : Id → Id → Bool
-same_id a b = bytes_eq a.0 b.0
 
 -- the index of the first party that passes the test, where the first party has the index `index`
 abbrev pub party_where : (Party → Bool) → ℕ → List Party → Option ℕ

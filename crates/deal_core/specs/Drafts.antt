@@ -4,10 +4,12 @@ use Rattle.std.specs.List.{list_any}
 use Rattle.std.specs.Option.{unwrap_or}
 use Rattle.std.specs.Str.{bytes_eq}
 use Rattle.dh_base.specs.declared.id.Id.{Id}
+use Rattle.dh_base.specs.Limits.{most_parties}
 use Rattle.line_text.specs.Faults.{broken_if}
 use Rattle.line_text.specs.Lines.{Line, lines_of}
 use Rattle.deal_core.specs.Deals.{is_named, has_account, index_of_name, total_of}
 use Rattle.deal_core.specs.Kept.{is_on, ledger_count}
+use Rattle.deal_core.specs.Limits.{most_steps, most_ledgers}
 use Rattle.deal_core.specs.Said.{said_by}
 use Rattle.deal_core.specs.declared.party.Party.{Party}
 use Rattle.deal_core.specs.declared.step.Step.{Step}
@@ -48,11 +50,11 @@ party_fault n parties party =
     broken_if
     (list_any (is_named party.name) parties || list_any (has_account party.account) parties)
     (PartyTwice n)
-    (broken_if (nat_le 16 (length parties)) (TooMany n) None)
+    (broken_if (nat_le most_parties (length parties)) (TooMany n) None)
 
 -- the step is on a ledger of its own, behind steps on eight others
 abbrev pub is_ninth : List Step → List ℕ → Bool
-is_ninth steps ledger = not (is_on steps ledger) && nat_le 8 (ledger_count steps)
+is_ninth steps ledger = not (is_on steps ledger) && nat_le most_ledgers (ledger_count steps)
 
 abbrev pub is_party : List Party → List ℕ → Bool
 is_party parties name = list_any (is_named name) parties
@@ -62,7 +64,7 @@ step_fault n parties steps step =
     broken_if (not (is_party parties step.from && is_party parties step.to)) (UnknownParty n)
     (broken_if (bytes_eq step.from step.to) (SelfStep n)
     (broken_if (step.amount == 0) (ZeroAmount n)
-    (broken_if (nat_le 64 (length steps) || is_ninth steps step.ledger) (TooMany n)
+    (broken_if (nat_le most_steps (length steps) || is_ninth steps step.ledger) (TooMany n)
     (broken_if (nat_lt (2 ^ 63 - 1) (total_of steps step.ledger step.asset + step.amount))
     (SumTooLarge n) None))))
 

@@ -3,8 +3,10 @@ use Rattle.std.specs.Prelude.{ℕ, ◌≡◌, ◌+◌, ◌<◌, ◌≤◌, ◌^�
 use Rattle.std.specs.List.{list_any, AllByRecursion}
 use Rattle.std.specs.Str.{bytes_eq}
 use Rattle.sha2.specs.Sha256.{sha256}
+use Rattle.dh_base.specs.Limits.{most_parties}
 use Rattle.deal_core.specs.Deals.{DealTold, is_named, has_account, total_of, IsConnected}
 use Rattle.deal_core.specs.DealText.{deal_text}
+use Rattle.deal_core.specs.Limits.{most_steps, most_ledgers}
 use Rattle.deal_core.specs.declared.party.Party.{Party}
 use Rattle.deal_core.specs.declared.step.Step.{Step}
 
@@ -39,11 +41,11 @@ pub record IsStepOf (parties : ℕ) (step : Step) : Type 0 where
 
 -- what the parties and the steps of a deal keep, also while their lines are read
 pub record IsDraft (parties : List Party) (steps : List Step) : Type 0 where
-  pub few_parties : length parties ≤ 16
+  pub few_parties : length parties ≤ most_parties
   pub different : AreNewBehind [] parties
-  pub few_steps : length steps ≤ 64
+  pub few_steps : length steps ≤ most_steps
   pub between : AllByRecursion (IsStepOf (length parties)) steps
-  pub few_ledgers : ledger_count steps ≤ 8
+  pub few_ledgers : ledger_count steps ≤ most_ledgers
   pub totals : (ledger asset : List ℕ) → total_of steps ledger asset < 2 ^ 63
 
 pub record IsDeal (deal : DealTold) : Type 0 where

@@ -1,5 +1,6 @@
 pub mod Deals
 pub mod DealText
+pub mod Limits
 pub mod Kept
 pub mod DealFaults
 pub mod Positions

@@ -1,6 +1,7 @@
 -- Marks of the parties that are reached from party 0, or that reach it.
 use Rattle.std.specs.Prelude.{ℕ, ◌≡◌, ◌<◌, Bool, true, false, List, slice_index_or}
 use Rattle.std.specs.List.{Contains}
+use Rattle.dh_base.specs.Limits.{most_parties}
 use Rattle.deal_core.specs.Deals.{Reaches}
 use Rattle.deal_core.specs.declared.step.Step.{Step}
 use Rattle.deal_core.specs.declared.reach.Way.{Way}
@@ -26,7 +27,7 @@ is_marked marks party = slice_index_or marks party false
 abbrev pub IsNext : Way → List Step → List Bool → ℕ → Type 0
 IsNext way steps marks party =
     (step : Step) × Contains steps step × (is_marked marks (near way step) ≡ true)
-    × (is_marked marks party ≡ false) × (far way step ≡ party) × (party < 16)
+    × (is_marked marks party ≡ false) × (far way step ≡ party) × (party < most_parties)
 
 -- no step leads from a party with a mark to one without
 abbrev pub IsClosed : Way → List Step → List Bool → Type 0

@@ -1,6 +1,7 @@
 //! What the lines of a deal's text come to so far.
 
 ghost use Rattle.std.specs.Prelude.{◌≡◌, ◌+◌, ◌-◌, ◌^◌, ◌≤◌, ◌<◌, nat_lt, length, IfOk, IfNone, OnOk, Some, None};
+ghost use Rattle.dh_base.specs.Limits.{most_parties};
 ghost use Rattle.line_text.specs.Seen.{line_of};
 ghost use Rattle.deal_core.specs.Deals.{total_of};
 ghost use Rattle.deal_core.specs.Drafts.{
@@ -23,11 +24,10 @@ ghost use Rattle.deal_core.specs.Drafts.{
 use crate::deal_fault::DealFault;
 use crate::deal_line::{DealLine, NamedStep};
 use crate::party::{Party, index_of_name, is_account, is_party};
-use crate::reach::MOST_PARTIES;
 use crate::saying::said_by;
 use crate::step::Step;
 use crate::step_list::{is_on, ledger_count, total};
-use dh_base::{GREATEST_AMOUNT, Id, Name, NoMemory};
+use dh_base::{GREATEST_AMOUNT, Id, MOST_PARTIES, Name, NoMemory};
 use line_text::TextLine;
 use std::alloc::Global;
 use std::marker::Model;
@@ -84,7 +84,7 @@ fn exceeds(steps: &[Step], ledger: &Name, asset: &Name, amount: u64) -> bool
 
 /// The step with the indices of its parties.
 fn with_indices(parties: &[Party], step: &NamedStep) -> Step
-    requires { length parties.now ≤ 16 }
+    requires { length parties.now ≤ most_parties }
     ensures { result ≡ with_indices parties.now step.now }
 {
     Step {

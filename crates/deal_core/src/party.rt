@@ -2,6 +2,7 @@
 
 ghost use Rattle.std.specs.Prelude.{◌≡◌, ◌<◌, ◌≤◌, IfSome, length};
 ghost use Rattle.std.specs.List.{list_any};
+ghost use Rattle.dh_base.specs.Limits.{most_parties};
 ghost use Rattle.deal_core.specs.Deals.{has_account, index_of_account};
 ghost use Rattle.deal_core.specs.Drafts.{is_party, index_in};
 
@@ -49,7 +50,7 @@ pub(crate) fn is_account(parties: &[Party], account: &Id) -> bool
 
 /// The index of the party with the name, and 0 where none has it.
 pub(crate) fn index_of_name(parties: &[Party], name: &Name) -> u16
-    requires { length parties.now ≤ 16 }
+    requires { length parties.now ≤ most_parties }
     ensures { result ≡ index_in parties.now name.now }
 {
     for (index, party) in parties.iter().enumerate() {
@@ -62,7 +63,7 @@ pub(crate) fn index_of_name(parties: &[Party], name: &Name) -> u16
 
 /// The index of the party with the account.
 pub(crate) fn index_of_account(parties: &[Party], account: &Id) -> Option<u16>
-    requires { length parties.now ≤ 16 }
+    requires { length parties.now ≤ most_parties }
     ensures value { result ≡ index_of_account parties.now account.now }
     ensures within { IfSome result (λ index. index < length parties.now) }
 {

@@ -2,15 +2,14 @@
 
 ghost use Rattle.std.specs.Prelude.{◌≡◌, ◌≤◌, length, IfSome, IfNone};
 ghost use Rattle.std.specs.List.{AllByRecursion};
+ghost use Rattle.dh_base.specs.Limits.{most_parties};
 ghost use Rattle.deal_core.specs.Deals.{IsConnected, IsFirstApart};
 ghost use Rattle.deal_core.specs.Kept.{IsStepOf};
 ghost use Rattle.deal_core.specs.Marks.{near, far, IsNext, IsClosed, AreMarks};
 
 use crate::party::Party;
 use crate::step::Step;
-
-/// The most parties of a deal.
-pub(crate) const MOST_PARTIES: usize = 16;
+use dh_base::MOST_PARTIES;
 
 /// Which walks are followed: those from party 0, or those to it.
 #[derive(Clone, Copy)]
@@ -41,7 +40,7 @@ fn far(way: Way, step: &Step) -> u16
 
 /// A party without a mark to which a step leads from one with a mark.
 fn next_party(steps: &[Step], marks: &[bool; MOST_PARTIES], way: Way) -> Option<usize>
-    requires { AllByRecursion (IsStepOf 16) steps.now }
+    requires { AllByRecursion (IsStepOf most_parties) steps.now }
     ensures some { IfSome result (IsNext way steps.now marks.now) }
     ensures none { IfNone result (IsClosed way steps.now marks.now) }
 {
@@ -56,7 +55,7 @@ fn next_party(steps: &[Step], marks: &[bool; MOST_PARTIES], way: Way) -> Option<
 
 /// Marks for the parties that are reached from party 0, or that reach it.
 fn marks(steps: &[Step], way: Way) -> [bool; MOST_PARTIES]
-    requires { AllByRecursion (IsStepOf 16) steps.now }
+    requires { AllByRecursion (IsStepOf most_parties) steps.now }
     ensures { AreMarks way steps.now result }
 {
     let mut marks = [false; MOST_PARTIES];
@@ -70,7 +69,7 @@ fn marks(steps: &[Step], way: Way) -> [bool; MOST_PARTIES]
 /// The first party that isn't reached from party 0 or doesn't reach it.
 pub(crate) fn first_apart(steps: &[Step], parties: &[Party]) -> Option<u16>
     requires between { AllByRecursion (IsStepOf (length parties.now)) steps.now }
-    requires few { length parties.now ≤ 16 }
+    requires few { length parties.now ≤ most_parties }
     ensures some { IfSome result (IsFirstApart steps.now (length parties.now)) }
     ensures none { IfNone result (IsConnected steps.now (length parties.now)) }
 {

@@ -36,7 +36,8 @@ fn told(alloc: Global, text: &[u8]) -> Result<String, Fail> {
     }
 }
 
-/// Reads the text of each line of the table, behind the lines before it. Its answer stands behind an arrow.
+/// Reads the text of each line of the table, behind the lines before it. Its answer stands behind
+/// an arrow.
 fn check(rt: &impl Abort, alloc: Global, before: &str, table: &str) -> Result<(), Fail> {
     for case in table.lines() {
         let (lines, answer) = case.split_once(" => ").ok_or("no answer")?;

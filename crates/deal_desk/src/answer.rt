@@ -11,7 +11,8 @@ use plain_script::{RefusedLine, ScriptRule};
 use std::alloc::Global;
 use std::fmt::Write;
 
-/// What a command answers to the input that it read: how it ends once the text is written, and the text.
+/// What a command answers to the input that it read: how it ends once the text is written, and the
+/// text.
 #[derive(Drop)]
 pub struct Answer {
     pub ending: Ending,

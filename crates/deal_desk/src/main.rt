@@ -1,6 +1,6 @@
-//! The program. `deal_desk clear` reads the text of a deal from standard input and writes its clearing;
-//! `deal_desk rehearse` reads a script and writes its report. [`run::run`] is the top call, over any
-//! source and sink; `main` gives it those of the system.
+//! The program. `deal_desk clear` reads the text of a deal from standard input and writes its
+//! clearing; `deal_desk rehearse` reads a script and writes its report. [`run::run`] is the top
+//! call, over any source and sink; `main` gives it those of the system.
 #![tactic(auto)]
 
 mod answer;
@@ -18,8 +18,8 @@ use run::run;
 use std::process::ExitCode;
 use std::{env, io};
 
-/// The words behind the program's own name. Where one is no text there are none, and so none that the program
-/// knows.
+/// The words behind the program's own name. Where one is no text there are none, and so none that
+/// the program knows.
 fn words(rt: &HostRuntime) -> Result<Vec<String>, NoMemory> {
     let mut words = Vec::new(rt.alloc());
     let all = match env::args(rt) {

@@ -51,10 +51,11 @@ fn carry_out<S: Source, K: Sink>(
     }
 }
 
-/// Runs the words, from the source to the sink, and answers the exit status: 0 where the command did all
-/// its work (the clearing of a deal or the report of a script is written), 1 for words that the program
-/// doesn't know, 2 for an input that is refused (a script that breaks a rule, a text that is no deal's,
-/// or too many bytes), 3 and 4 where the source or the sink fails, and 7 where memory runs out.
+/// Runs the words, from the source to the sink, and answers the exit status: 0 where the command
+/// did all its work (the clearing of a deal or the report of a script is written), 1 for words that
+/// the program doesn't know, 2 for an input that is refused (a script that breaks a rule, a text
+/// that is no deal's, or too many bytes), 3 and 4 where the source or the sink fails, and 7 where
+/// memory runs out.
 pub fn run<S: Source, K: Sink>(alloc: Global, words: &[String], input: &mut S, output: &mut K) -> u8
     ensures ended { IsEnded result (map string_bytes words.now)
         (S.seen input.old) (S.seen input.new) (K.seen output.old) (K.seen output.new) }

@@ -85,8 +85,8 @@ fn lines_behind(alloc: Global, before: &str, lines: &str) -> Result<Vec<u8>, All
     Ok(text)
 }
 
-/// Checks that the lines of each row, behind the text, are refused with the row's line and status 2. Behind each
-/// line of a row stands `|`, and the answer behind an arrow.
+/// Checks that the lines of each row, behind the text, are refused with the row's line and status
+/// 2. Behind each line of a row stands `|`, and the answer behind an arrow.
 fn check_refused(
     rt: &impl Abort,
     alloc: Global,

@@ -1,4 +1,5 @@
--- Formats: how the values of a type are spelled, and how they are taken at a place, one field behind another.
+-- Formats: how the values of a type are spelled, and how they are taken at a place, one field
+-- behind another.
 use Rattle.std.specs.Prelude.{ℕ, ◌≡◌, ◌+◌, ◌<◌, ◌^◌, ◌↔◌, Bool, false, zero, suc, if◌then◌else◌, nat_lt, List, [], ◌∷◌, ◌++◌, length, IsTrue, Result, Ok, Err}
 use Rattle.std.specs.List.{flat_map, AllByRecursion}
 use Rattle.std.specs.Int.{Width, byte_len, to_be_bytes, w32}
@@ -20,7 +21,9 @@ next_name bytes at = name_at bytes at >>= λ name. Ok (name, at + (1 + length na
 
 -- a text behind its length, which are two fields
 abbrev pub next_text : List ℕ → ℕ → Result (List ℕ × ℕ) BaseFault
-next_text bytes at = number_at w32 bytes at >>= λ len. bytes_at len bytes (at + 4) >>= λ text. Ok (text, at + 4 + len)
+next_text bytes at =
+    number_at w32 bytes at >>= λ len.
+    bytes_at len bytes (at + 4) >>= λ text. Ok (text, at + 4 + len)
 
 abbrev pub text_field : List ℕ → List ℕ
 text_field text = to_be_bytes w32 (length text) ++ text
@@ -31,29 +34,39 @@ or_fault of (Ok x) = Ok x
 or_fault of (Err fault) = Err (of fault)
 
 -- a value that a test lets pass, or a fault where its field begins
-abbrev pub unless_out_of_range : {A F : Type 0} → (A → Bool) → (ℕ → F) → (List ℕ → ℕ → Result (A × ℕ) F) → List ℕ → ℕ → Result (A × ℕ) F
-unless_out_of_range is_outside fault taken bytes at = taken bytes at >>= λ read. if is_outside read.0 then Err (fault at) else Ok read
+abbrev pub unless_out_of_range : {A F : Type 0} → (A → Bool) → (ℕ → F)
+    → (List ℕ → ℕ → Result (A × ℕ) F) → List ℕ → ℕ → Result (A × ℕ) F
+unless_out_of_range is_outside fault taken bytes at =
+    taken bytes at >>= λ read. if is_outside read.0 then Err (fault at) else Ok read
 
 -- that many values, one behind the other
-abbrev pub next_values : {A F : Type 0} → (List ℕ → ℕ → Result (A × ℕ) F) → ℕ → List ℕ → ℕ → Result (List A × ℕ) F
+abbrev pub next_values : {A F : Type 0} → (List ℕ → ℕ → Result (A × ℕ) F)
+    → ℕ → List ℕ → ℕ → Result (List A × ℕ) F
 next_values taken zero bytes at = Ok ([], at)
-next_values taken (suc n) bytes at = taken bytes at >>= λ first. next_values taken n bytes first.1 >>= λ rest. Ok (first.0 ∷ rest.0, rest.1)
+next_values taken (suc n) bytes at =
+    taken bytes at >>= λ first.
+    next_values taken n bytes first.1 >>= λ rest. Ok (first.0 ∷ rest.0, rest.1)
 
 -- the value that all of the bytes are, or a fault at the first byte that is left over
-abbrev pub whole_of : {A F : Type 0} → (ℕ → F) → (List ℕ → ℕ → Result (A × ℕ) F) → List ℕ → Result A F
-whole_of left_over taken bytes = taken bytes 0 >>= λ read. if nat_lt read.1 (length bytes) then Err (left_over read.1) else Ok read.0
+abbrev pub whole_of : {A F : Type 0} → (ℕ → F) → (List ℕ → ℕ → Result (A × ℕ) F)
+    → List ℕ → Result A F
+whole_of left_over taken bytes =
+    taken bytes 0 >>= λ read.
+    if nat_lt read.1 (length bytes) then Err (left_over read.1) else Ok read.0
 
 -- ---- what stands there
 
 -- A spelling of the value stands at the place, and the next place is behind it.
-pub record IsSpelledAt {A : Type 0} (spells : A → List ℕ → Type 0) (bytes : List ℕ) (at : ℕ) (read : A × ℕ) : Type 0 where
+pub record IsSpelledAt {A : Type 0} (spells : A → List ℕ → Type 0)
+    (bytes : List ℕ) (at : ℕ) (read : A × ℕ) : Type 0 where
   pub text : List ℕ
   pub spelled : spells read.0 text
   pub stands : StandsAt text bytes at
   pub next : read.1 ≡ at + length text
 
 -- What is taken at a place is what is spelled there, and nothing else.
-abbrev pub TakesWhatIsSpelled : {A F : Type 0} → (List ℕ → ℕ → Result (A × ℕ) F) → (A → List ℕ → Type 0) → Type 0
+abbrev pub TakesWhatIsSpelled : {A F : Type 0} → (List ℕ → ℕ → Result (A × ℕ) F)
+    → (A → List ℕ → Type 0) → Type 0
 TakesWhatIsSpelled {A} taken spells = (bytes : List ℕ) (at : ℕ) (read : A × ℕ) → AreBytes bytes →
     (taken bytes at ≡ Ok read) ↔ IsSpelledAt spells bytes at read
 
@@ -78,7 +91,8 @@ abbrev pub SpelledWithin : {A : Type 0} → (A → Bool) → (A → List ℕ →
 SpelledWithin is_outside spells value text = spells value text × (is_outside value ≡ false)
 
 -- Behind a spelling of a first value stands what spells the whole.
-pub record IsSpelledAfter {A B : Type 0} (first : A → List ℕ → Type 0) (behind : A → B → List ℕ → Type 0) (whole : B) (text : List ℕ) : Type 0 where
+pub record IsSpelledAfter {A B : Type 0} (first : A → List ℕ → Type 0)
+    (behind : A → B → List ℕ → Type 0) (whole : B) (text : List ℕ) : Type 0 where
   pub value : A
   pub front : List ℕ
   pub rest : List ℕ
@@ -87,7 +101,8 @@ pub record IsSpelledAfter {A B : Type 0} (first : A → List ℕ → Type 0) (be
   pub is : text ≡ front ++ rest
 
 -- The last value is spelled, of which the whole is made.
-pub record IsMadeOf {A B : Type 0} (make : A → B) (spells : A → List ℕ → Type 0) (whole : B) (text : List ℕ) : Type 0 where
+pub record IsMadeOf {A B : Type 0} (make : A → B) (spells : A → List ℕ → Type 0)
+    (whole : B) (text : List ℕ) : Type 0 where
   pub value : A
   pub spelled : spells value text
   pub is : whole ≡ make value

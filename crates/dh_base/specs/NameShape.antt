@@ -22,6 +22,12 @@ padded text = record { chars = text ++ replicate (16 - length text) 0; len = len
 
 pub padded_back : (n : Inside) → IsPadded n → padded (chars_of n) ≡ n
 padded_back n h =
-    let used : length (take n.len n.chars) ≡ n.len = length-take-le n.len n.chars (omega (arith, h.fits, h.places)) in
-    let front : padded (take n.len n.chars) ≡ record { chars = take n.len n.chars ++ replicate (16 - n.len) 0; len = n.len } = ap (λ (k : ℕ). record { chars = take n.len n.chars ++ replicate (16 - k) 0; len = k }) used in
-    front ∙ ap (λ (cs : List ℕ). record { chars = cs; len = n.len }) (ap (λ (zs : List ℕ). take n.len n.chars ++ zs) (sym h.zeros) ∙ take-append-drop n.len n.chars)
+    let used : length (take n.len n.chars) ≡ n.len
+    = length-take-le n.len n.chars (omega (arith, h.fits, h.places)) in
+    let front : padded (take n.len n.chars)
+    ≡ record { chars = take n.len n.chars ++ replicate (16 - n.len) 0; len = n.len }
+    = ap (λ (k : ℕ). record { chars = take n.len n.chars ++ replicate (16 - k) 0; len = k })
+    used in
+    front ∙ ap (λ (cs : List ℕ). record { chars = cs; len = n.len })
+    (ap (λ (zs : List ℕ). take n.len n.chars ++ zs) (sym h.zeros)
+    ∙ take-append-drop n.len n.chars)

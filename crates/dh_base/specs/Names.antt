@@ -19,7 +19,7 @@ begins_with_letter (c ∷ cs) = is_letter c
 abbrev pub is_name : List ℕ → Bool
 is_name text = begins_with_letter text && (list_all is_name_byte text && nat_le (length text) 16)
 
--- The first place of a text at which no name goes on: 0 where no letter begins it, and else the place behind the
--- characters that a name may have, of which there are at most sixteen.
+-- The first place of a text at which no name goes on: 0 where no letter begins it, and else the
+-- place behind the characters that a name may have, of which there are at most sixteen.
 abbrev pub bad_place : List ℕ → ℕ
 bad_place text = if begins_with_letter text then min 16 (prefix_len is_name_byte text) else 0

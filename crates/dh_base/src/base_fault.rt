@@ -8,8 +8,8 @@ use std::fmt;
 pub enum BaseFault {
     /// The bytes end within the field that begins at `at`.
     Short { at: u32 },
-    /// No name stands there. `at` is the first place at which no name goes on, and for a field the place
-    /// where the field begins.
+    /// No name stands there. `at` is the first place at which no name goes on, and for a field the
+    /// place where the field begins.
     BadName { at: u32 },
 }
 

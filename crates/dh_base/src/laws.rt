@@ -1,6 +1,6 @@
 //! Laws of the fields of byte texts: what is put stands where the text ended before, and a field
-//! that stands at a place is the one that is taken there, and no other is. And a law of the texts of
-//! refusals.
+//! that stands at a place is the one that is taken there, and no other is. And a law of the texts
+//! of refusals.
 
 ghost use Rattle.std.specs.Prelude.{◌≡◌, ◌↔◌, ◌+◌, ◌≤◌, ◌∷◌, ◌++◌, ℕ, List, length, Ok, IsTrue};
 ghost use Rattle.std.specs.Int.{w8, w16, w32, w64};
@@ -30,7 +30,8 @@ pub fn numbers_taken()
     ensures eight_bytes { TakenWhereItStands w64 }
 {}
 
-/// Bytes of a given number, such as those of an id, are taken at a place exactly where they stand there.
+/// Bytes of a given number, such as those of an id, are taken at a place exactly where they stand
+/// there.
 pub fn bytes_taken()
     ensures { (n : ℕ) (bytes field : List ℕ) (at : ℕ) →
         (bytes_at n bytes at ≡ Ok field) ↔ ((length field ≡ n) × StandsAt field bytes at) }

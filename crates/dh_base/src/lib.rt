@@ -1,10 +1,10 @@
-//! What the other crates share: names, ids and outcomes; refusals, which tell a number, a name and
-//! fields; the fields of byte texts, and digests of bytes; and the sources and sinks through which a
-//! program reads and writes bytes.
+//! What the other crates share: names, ids, outcomes and limits; refusals, which tell a number, a
+//! name and fields; the fields of byte texts, and digests of bytes; and the sources and sinks
+//! through which a program reads and writes bytes.
 //!
 //! [`Outside`] says what is seen of a source or a sink, and [`Source`] and [`Sink`] what it may do:
-//! give or take a piece of the bytes, or fail, which it counts. [`MemSource`] and [`MemSink`] are such
-//! outsides in memory, which fail the calls that a test tells them to. [`ReaderSource`] and
+//! give or take a piece of the bytes, or fail, which it counts. [`MemSource`] and [`MemSink`] are
+//! such outsides in memory, which fail the calls that a test tells them to. [`ReaderSource`] and
 //! [`WriterSink`] stand over the system's readers and writers.
 #![tactic(auto)]
 
@@ -15,6 +15,7 @@ pub mod failure;
 pub mod hash;
 pub mod id;
 pub mod laws;
+pub mod limits;
 pub mod list;
 pub mod mem_sink;
 pub mod mem_source;
@@ -35,6 +36,7 @@ pub use calls::Calls;
 pub use failure::{Failed, NoMemory, count_fault};
 pub use hash::digest;
 pub use id::Id;
+pub use limits::MOST_PARTIES;
 pub use list::List;
 pub use mem_sink::MemSink;
 pub use mem_source::MemSource;

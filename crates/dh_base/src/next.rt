@@ -1,5 +1,5 @@
-//! Reading the fields of a byte text one behind the other: each call gives the field at a place, and the
-//! place behind it.
+//! Reading the fields of a byte text one behind the other: each call gives the field at a place,
+//! and the place behind it.
 
 ghost use Rattle.std.specs.Prelude.{◌≡◌, ◌<◌, ◌≤◌, ◌^◌, length, IfOk};
 ghost use Rattle.std.specs.Int.{w8, w16, w32, w64};
@@ -72,10 +72,12 @@ pub fn next_name(bytes: &[u8], at: u32) -> Result<(Name, u32), BaseFault>
     Ok((name, at + 1 + u32::from(name.len)))
 }
 
-/// The text behind its length at a place. A length that passes the end is told at the place where the text begins.
+/// The text behind its length at a place. A length that passes the end is told at the place where
+/// the text begins.
 pub fn next_text(bytes: &[u8], at: u32) -> Result<(&[u8], u32), BaseFault>
     requires { length bytes.now < 2 ^ 32 }
-    ensures field { result_map_both (λ read. (read.0.now, read.1)) (λ fault. fault) result ≡ next_text bytes.now at }
+    ensures field { result_map_both (λ read. (read.0.now, read.1)) (λ fault. fault) result
+        ≡ next_text bytes.now at }
     ensures within { IfOk result (λ read. read.1 ≤ length bytes.now) }
 {
     let (len, start) = next_u32(bytes, at)?;

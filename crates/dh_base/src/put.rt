@@ -1,5 +1,5 @@
-//! Appending the fields of a byte text. Numbers have their high byte first. Where memory runs out, the
-//! text is as it was.
+//! Appending the fields of a byte text. Numbers have their high byte first. Where memory runs out,
+//! the text is as it was.
 
 ghost use Rattle.std.specs.Prelude.{◌≡◌, ◌<◌, ◌^◌, ◌++◌, length, OnOk, OnErr};
 ghost use Rattle.std.specs.Int.{w8, w16, w32, w64, to_be_bytes};

@@ -111,8 +111,8 @@ pub fn entry(label: &'static str, vote: Option<Outcome>, num: u16, deal: Id) -> 
     }
 }
 
-/// What a refusal tells of itself: its number, its name and its fields, in the order in which they are
-/// printed. The number never changes: reports and replies name the refusal by it.
+/// What a refusal tells of itself: its number, its name and its fields, in the order in which they
+/// are printed. The number never changes: reports and replies name the refusal by it.
 #[derive(Clone, Copy)]
 pub struct Telling {
     pub number: u16,
@@ -208,13 +208,14 @@ pub trait Refusal {
     /// What it tells of itself, and behind it what each refusal tells that it holds.
     ghost told: { Self → List Told };
 
-    /// What is told at a level: at level 0 its own, at level 1 what the refusal tells that it holds.
+    /// What is told at a level: at level 0 its own, at level 1 what the refusal tells that it
+    /// holds.
     fn telling(&self, level: usize) -> Option<Telling>
         ensures { option_telling_told result ≡ slice_get (told self.now) level };
 }
 
-/// Writes a refusal as reports print it: its number, its name and its fields, and behind them in the
-/// same form the refusals that it holds, with single spaces between them all.
+/// Writes a refusal as reports print it: its number, its name and its fields, and behind them in
+/// the same form the refusals that it holds, with single spaces between them all.
 pub fn write_refusal<R: Refusal, W: fmt::Write>(
     refusal: &R,
     f: &mut fmt::Formatter<W>,

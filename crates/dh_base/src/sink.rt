@@ -8,8 +8,8 @@ use crate::outside::Outside;
 
 /// A sink of bytes.
 pub trait Sink: Outside {
-    /// Writes bytes of the piece, from its front, and answers how many: at least one of a piece that
-    /// isn't empty.
+    /// Writes bytes of the piece, from its front, and answers how many: at least one of a piece
+    /// that isn't empty.
     fn write(&mut self, piece: &[u8]) -> Result<usize, Failed>
         ensures within { IfOk result (λ n. n ≤ length piece.now) }
         ensures some { IfOk result (λ n. 0 < length piece.now → 0 < n) }

@@ -1,5 +1,5 @@
-//! Sources and sinks over standard input and output, or any reader and writer of the system. They tell
-//! the bytes that the reader and the writer tell, and count each error.
+//! Sources and sinks over standard input and output, or any reader and writer of the system. They
+//! tell the bytes that the reader and the writer tell, and count each error.
 
 ghost use Rattle.std.specs.Prelude.{◌≡◌, None};
 
@@ -45,7 +45,8 @@ impl<R: io::Read> Source for ReaderSource<R> {
     }
 }
 
-/// A sink over a writer, such as standard output. A writer that takes nothing of a piece counts as failed.
+/// A sink over a writer, such as standard output. A writer that takes nothing of a piece counts as
+/// failed.
 #[derive(Drop)]
 pub struct WriterSink<W> {
     writer: W,

@@ -6,7 +6,7 @@ use Rattle.dh_base.specs.declared.id.Id.{Id}
 use Rattle.dh_base.specs.declared.outcome.Outcome.{Outcome}
 use Rattle.escrow_book.specs.declared.fault.BookFault.{BookFault}
 use Rattle.escrow_book.specs.declared.fault.BookFault.TheVariants.{DealSettled}
-use Rattle.escrow_book.specs.Opening.{same_id}
+use Rattle.dh_base.specs.Ids.{same_id}
 use Rattle.escrow_book.specs.History.{History, is_known, is_party, settlement_of, moves_of, if_commit_of, free_of}
 use Rattle.escrow_book.specs.Refused.{unknown_deal, not_a_party, deal_settled, wrong_turn, zero, zero_or_self, short, escrow_refusal, transfer_refusal, pay_refusal, settle_refusal}
 

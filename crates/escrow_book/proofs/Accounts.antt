@@ -7,12 +7,13 @@ use Rattle.std.proofs.lemmas.List.Sums.{sum_by-cons}
 use Rattle.dh_base.specs.declared.id.Id.{Id}
 use Rattle.escrow_book.specs.declared.change.Change.{Change}
 use Rattle.escrow_book.specs.declared.change.Change.TheVariants.{Registered, Escrowed, Transferred, Paid, Settled}
-use Rattle.escrow_book.specs.Opening.{Row, same_id, row_amount, asset_amount, opening_of, total_of}
+use Rattle.escrow_book.specs.Opening.{Row, row_amount, asset_amount, opening_of, total_of}
+use Rattle.dh_base.specs.Ids.{same_id}
 use Rattle.escrow_book.specs.History.{is_in, escrowed, received, given, paid_to, paid_from, put_up}
 use Rattle.escrow_book.specs.Reached.{are_different}
 use Rattle.escrow_book.specs.Conserved.{named, are_in}
 use Rattle.escrow_book.proofs.Sums.{sum_same, sum_same_all, sum_zero, sum_swap}
-use Rattle.escrow_book.proofs.Same.{id_from_same, same_id-swap}
+use Rattle.dh_base.proofs.SameIds.{id_from_same, same_id-swap}
 
 pub nobody : (accounts : List Id) (q : Id) (n : ℕ) → is_in q accounts ≡ false → sum_by (λ p. cond (same_id p q) n 0) accounts ≡ 0
 nobody [] q n out = refl

@@ -10,7 +10,8 @@ use Rattle.escrow_book.specs.declared.change.Change.{Change}
 use Rattle.escrow_book.specs.declared.change.Change.TheVariants.{Registered, Escrowed, Transferred, Paid, Settled}
 use Rattle.std.specs.Option.{option_or}
 use Rattle.dh_base.specs.Amounts.{greatest_amount}
-use Rattle.escrow_book.specs.Opening.{Row, same_id, asset_amount, row_amount, opening_of, total_of}
+use Rattle.escrow_book.specs.Opening.{Row, asset_amount, row_amount, opening_of, total_of}
+use Rattle.dh_base.specs.Ids.{same_id}
 use Rattle.escrow_book.specs.Base.{Base, carried_outcome, carried_commit, carried_abort, carried_payout, held_most, open_most, base_total, greatest_turn}
 use Rattle.escrow_book.specs.Kept.{ended_here}
 use Rattle.dh_base.specs.declared.outcome.Outcome.TheVariants.{Commit, Abort}
@@ -18,7 +19,7 @@ use Rattle.escrow_book.specs.History.{History, with_change, settlement_of, if_ab
 use Rattle.escrow_book.specs.Reached.{IsAccepted, IsGrown, are_different}
 use Rattle.escrow_book.specs.Conserved.{AreItsAccounts}
 use Rattle.escrow_book.proofs.Sums.{sum_le, all_by_all}
-use Rattle.escrow_book.proofs.Same.{id_from_same}
+use Rattle.dh_base.proofs.SameIds.{id_from_same}
 use Rattle.escrow_book.proofs.Lookups.{settlement_kept, open_here}
 use Rattle.escrow_book.proofs.Growth.{apart_deals, settled_is_still, if_commit_still, if_abort_still}
 use Rattle.escrow_book.proofs.Accepting.{escrow_accepted}

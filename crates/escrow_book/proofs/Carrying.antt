@@ -13,13 +13,13 @@ use Rattle.escrow_book.specs.declared.change.Change.TheVariants.{Registered, Esc
 use Rattle.escrow_book.specs.declared.known_deal.KnownDeal.{KnownDeal}
 use Rattle.escrow_book.specs.declared.row.HoldRow.{HoldRow}
 use Rattle.escrow_book.specs.declared.row.MovesRow.{MovesRow}
-use Rattle.escrow_book.specs.Opening.{same_id}
+use Rattle.dh_base.specs.Ids.{same_id}
 use Rattle.escrow_book.specs.Base.{Base, Carried, find_deal, carried_outcome, is_hold, is_moves, carried_commit, carried_abort, carried_payout, carried_moves, hold_commit, hold_abort, held_most, open_most, greatest_turn}
 use Rattle.escrow_book.specs.History.{History, settlement_of, is_in}
 use Rattle.escrow_book.specs.Reached.{IsAccepted, IsGrown, are_different}
 use Rattle.escrow_book.specs.Kept.{ended_here}
 use Rattle.escrow_book.proofs.Sums.{sum_le, sum_zero, sum_add, sum_same_all, all_by_all, all_weaker, all_append}
-use Rattle.escrow_book.proofs.Same.{id_from_same}
+use Rattle.dh_base.proofs.SameIds.{id_from_same}
 use Rattle.escrow_book.proofs.Lookups.{worth, carried_open, open_here}
 use Rattle.escrow_book.proofs.Accepting.{settle_accepted}
 use Rattle.escrow_book.proofs.Accounts.{nobody, somebody_where}

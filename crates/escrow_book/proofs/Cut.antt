@@ -4,7 +4,7 @@ use Rattle.std.specs.Str.{bytes_eq}
 use Rattle.dh_base.specs.declared.id.Id.{Id}
 use Rattle.escrow_book.specs.declared.change.Change.{Change}
 use Rattle.escrow_book.specs.declared.change.Change.TheVariants.{Registered, Escrowed, Transferred, Paid, Settled}
-use Rattle.escrow_book.specs.Opening.{same_id}
+use Rattle.dh_base.specs.Ids.{same_id}
 use Rattle.escrow_book.specs.Base.{Base}
 use Rattle.escrow_book.specs.History.{History, with_change, given, deal_came, deal_went, if_commit_of, paid_from, put_up, free_came, free_went, free_of}
 use Rattle.escrow_book.specs.Reached.{IsAccepted, IsGrown}

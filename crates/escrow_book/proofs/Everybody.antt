@@ -5,11 +5,12 @@ use Rattle.std.proofs.lemmas.Bool.{or_cases, or_left, or_right, and_from, not_fr
 use Rattle.std.proofs.lemmas.List.Sums.{sum_by-cons}
 use Rattle.dh_base.specs.declared.id.Id.{Id}
 use Rattle.escrow_book.specs.declared.change.Change.{Change}
-use Rattle.escrow_book.specs.Opening.{Row, same_id}
+use Rattle.escrow_book.specs.Opening.{Row}
+use Rattle.dh_base.specs.Ids.{same_id}
 use Rattle.escrow_book.specs.History.{History, is_in}
 use Rattle.escrow_book.specs.Reached.{are_different}
 use Rattle.escrow_book.specs.Conserved.{AreItsAccounts, named, are_in}
-use Rattle.escrow_book.proofs.Same.{id_from_same, same_id-self}
+use Rattle.dh_base.proofs.SameIds.{id_from_same, same_id-self}
 
 pub is_in-append : (q : Id) (xs ys : List Id) → is_in q (xs ++ ys) ≡ (is_in q xs || is_in q ys)
 is_in-append q [] ys = refl

@@ -16,7 +16,8 @@ use Rattle.escrow_book.specs.declared.row.HoldRow.{HoldRow}
 use Rattle.escrow_book.specs.declared.known_deal.KnownDeal.{KnownDeal}
 use Rattle.escrow_book.specs.declared.part_fault.PartFault.TheVariants.{BadRows, SumTooLarge}
 use Rattle.dh_base.specs.Amounts.{greatest_amount}
-use Rattle.escrow_book.specs.Opening.{Row, same_id, row_amount, opening_of, total_of, has_row}
+use Rattle.escrow_book.specs.Opening.{Row, row_amount, opening_of, total_of, has_row}
+use Rattle.dh_base.specs.Ids.{same_id}
 use Rattle.escrow_book.specs.Base.{Base, Carried, nothing_carried, find_deal, carried_parties, is_hold, hold_commit, hold_abort, most_of, most_if_open, open_most, base_total}
 use Rattle.escrow_book.specs.History.{History, settlement_of, is_in, is_among, if_abort_of, if_commit_of, free_of}
 use Rattle.escrow_book.specs.Reached.{IsGrown, IsReached, are_different}
@@ -24,7 +25,8 @@ use Rattle.escrow_book.specs.Conserved.{AreItsAccounts}
 use Rattle.escrow_book.specs.Kept.{ended_here}
 use Rattle.escrow_book.specs.PartRows.{no_rows, with_row, is_bad_row, is_too_large, row_fault, row_number, first_fault, are_not_bad, Says}
 use Rattle.escrow_book.proofs.Sums.{sum_le, sum_same, sum_zero, sum_swap, all_by_all, all_weaker, all_append}
-use Rattle.escrow_book.proofs.Same.{id_from_same, same_id-self, same_id-swap, at_same_pair, at_same_three}
+use Rattle.escrow_book.proofs.Same.{at_same_pair, at_same_three}
+use Rattle.dh_base.proofs.SameIds.{id_from_same, same_id-self, same_id-swap}
 use Rattle.escrow_book.proofs.Steps.{history}
 use Rattle.escrow_book.proofs.Whole.{grown, total_within}
 use Rattle.escrow_book.proofs.Cut.{nothing_is_cut}

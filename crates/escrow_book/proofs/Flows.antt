@@ -7,7 +7,8 @@ use Rattle.dh_base.specs.declared.outcome.Outcome.{Outcome}
 use Rattle.dh_base.specs.declared.outcome.Outcome.TheVariants.{Commit, Abort}
 use Rattle.escrow_book.specs.declared.change.Change.{Change}
 use Rattle.escrow_book.specs.declared.change.Change.TheVariants.{Registered, Escrowed, Transferred, Paid, Settled}
-use Rattle.escrow_book.specs.Opening.{same_id, opening_of}
+use Rattle.escrow_book.specs.Opening.{opening_of}
+use Rattle.dh_base.specs.Ids.{same_id}
 use Rattle.escrow_book.specs.History.{History, escrowed, received, given, if_commit_of, deal_came, deal_went, paid_to, paid_out, paid_from, put_up, free_came, free_went, free_of}
 use Rattle.escrow_book.specs.Flow.{is_commit, if_committed, if_running, gained, lost, carried_out}
 use Rattle.escrow_book.specs.Base.{Base, carried_commit}

@@ -8,11 +8,11 @@ use Rattle.dh_base.specs.declared.outcome.Outcome.{Outcome}
 use Rattle.dh_base.specs.declared.outcome.Outcome.TheVariants.{Commit, Abort}
 use Rattle.escrow_book.specs.declared.change.Change.{Change}
 use Rattle.escrow_book.specs.declared.change.Change.TheVariants.{Registered, Escrowed, Transferred, Paid, Settled}
-use Rattle.escrow_book.specs.Opening.{same_id}
+use Rattle.dh_base.specs.Ids.{same_id}
 use Rattle.escrow_book.specs.History.{History, with_change, with_changes, settlement, settlement_of, escrowed, received, given, if_abort_of, if_commit_of, deal_came, deal_went, payout_of, paid_to, paid_out, paid_from, put_up, free_came, free_went}
 use Rattle.escrow_book.specs.Reached.{IsAccepted, AreAccepted}
 use Rattle.escrow_book.proofs.Sums.{sum_same, all_weaker}
-use Rattle.escrow_book.proofs.Same.{id_from_same, same_id-self}
+use Rattle.dh_base.proofs.SameIds.{id_from_same, same_id-self}
 use Rattle.escrow_book.specs.Base.{carried_outcome}
 use Rattle.escrow_book.specs.Kept.{ended_here}
 use Rattle.escrow_book.proofs.Lookups.{settlement_stays, answered_where, some_value, some_since}

@@ -10,13 +10,13 @@ use Rattle.escrow_book.specs.declared.change.Change.{Change}
 use Rattle.escrow_book.specs.declared.change.Change.TheVariants.{Registered, Escrowed, Transferred, Paid, Settled}
 use Rattle.escrow_book.specs.declared.entry.Entry.{Entry}
 use Rattle.escrow_book.specs.declared.known_deal.KnownDeal.{KnownDeal}
-use Rattle.escrow_book.specs.Opening.{same_id}
+use Rattle.dh_base.specs.Ids.{same_id}
 use Rattle.escrow_book.specs.Base.{Base, find_deal}
 use Rattle.escrow_book.specs.History.{History, with_change, registration, settlement, parties_of, settlement_of}
 use Rattle.escrow_book.specs.Reached.{IsAccepted}
 use Rattle.escrow_book.specs.Kept.{with_outcome, change_in, ended_here, is_under, with_end, ended_by, AreEnded, LeavesDeals, history_kept, IsKept}
 use Rattle.escrow_book.proofs.Sums.{all_weaker, all_append}
-use Rattle.escrow_book.proofs.Same.{id_from_same, same_from_id, same_id-swap}
+use Rattle.dh_base.proofs.SameIds.{id_from_same, same_from_id, same_id-swap}
 use Rattle.escrow_book.proofs.Lookups.{first_answer_push, answer_kept, parties_push, settlement_push, parties_kept, settlement_kept, open_here}
 use Rattle.escrow_book.proofs.Accepting.{escrow_accepted, transfer_accepted, settle_accepted}
 use Rattle.escrow_book.proofs.Steps.{grown_push}

@@ -10,7 +10,7 @@ use Rattle.escrow_book.specs.Base.{Base}
 use Rattle.escrow_book.specs.History.{History, with_change, registration, parties_of, is_in, is_among, is_party}
 use Rattle.escrow_book.specs.Reached.{IsAccepted, IsGrown, are_different, are_parties}
 use Rattle.escrow_book.proofs.Sums.{all_weaker, all_append}
-use Rattle.escrow_book.proofs.Same.{id_from_same, same_id-self}
+use Rattle.dh_base.proofs.SameIds.{id_from_same, same_id-self}
 use Rattle.escrow_book.proofs.Lookups.{parties_stay, parties_push}
 use Rattle.escrow_book.proofs.Accepting.{escrow_accepted, transfer_accepted}
 use Rattle.escrow_book.proofs.Accounts.{IsCovered}

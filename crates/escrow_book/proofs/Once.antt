@@ -4,13 +4,13 @@ use Rattle.std.specs.List.{sum_by, count_by}
 use Rattle.dh_base.specs.declared.id.Id.{Id}
 use Rattle.escrow_book.specs.declared.change.Change.{Change}
 use Rattle.escrow_book.specs.declared.change.Change.TheVariants.{Registered, Escrowed, Transferred, Paid, Settled}
-use Rattle.escrow_book.specs.Opening.{same_id}
+use Rattle.dh_base.specs.Ids.{same_id}
 use Rattle.escrow_book.specs.Base.{Base}
 use Rattle.escrow_book.specs.Kept.{ended_here}
 use Rattle.escrow_book.specs.History.{History, first_answer, registration, settlement}
 use Rattle.escrow_book.specs.Reached.{IsAccepted, IsGrown}
 use Rattle.escrow_book.proofs.Sums.{sum_same_all}
-use Rattle.escrow_book.proofs.Same.{id_from_same}
+use Rattle.dh_base.proofs.SameIds.{id_from_same}
 use Rattle.escrow_book.proofs.Lookups.{worth, AnsweredOnce, answered_once_push, open_here, new_here}
 use Rattle.escrow_book.proofs.Accepting.{settle_accepted}
 use Rattle.escrow_book.proofs.Steps.{history, by_steps}

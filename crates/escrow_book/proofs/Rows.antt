@@ -17,7 +17,8 @@ use Rattle.escrow_book.specs.declared.known_deal.KnownDeal.{KnownDeal}
 use Rattle.escrow_book.specs.declared.part_fault.PartFault.{PartFault}
 use Rattle.escrow_book.specs.declared.part_fault.PartFault.TheVariants.{BadRows, SumTooLarge, NoMemory}
 use Rattle.dh_base.specs.Amounts.{greatest_amount}
-use Rattle.escrow_book.specs.Opening.{Row, same_id, asset_amount, total_of}
+use Rattle.escrow_book.specs.Opening.{Row, asset_amount, total_of}
+use Rattle.dh_base.specs.Ids.{same_id}
 use Rattle.escrow_book.specs.Base.{Base, find_deal, carried_parties, is_hold, is_moves, hold_commit, hold_abort, most_of, most_if_open, base_total, greatest_turn, IsGoodBase}
 use Rattle.escrow_book.specs.History.{is_among}
 use Rattle.escrow_book.specs.Reached.{are_different}

@@ -9,7 +9,8 @@ use Rattle.escrow_book.specs.declared.row.BookRow.TheVariants.{Free, Deal, Hold,
 use Rattle.escrow_book.specs.declared.row.HoldRow.{HoldRow}
 use Rattle.escrow_book.specs.declared.row.MovesRow.{MovesRow}
 use Rattle.escrow_book.specs.declared.known_deal.KnownDeal.{KnownDeal}
-use Rattle.escrow_book.specs.Opening.{same_id, row_amount, opening_of}
+use Rattle.escrow_book.specs.Opening.{row_amount, opening_of}
+use Rattle.dh_base.specs.Ids.{same_id}
 use Rattle.escrow_book.specs.Base.{Base, find_deal, is_hold, is_moves}
 use Rattle.escrow_book.specs.History.{parties_of, settlement_of, moves_of, if_commit_of, if_abort_of, free_of}
 use Rattle.escrow_book.specs.PartRows.{no_rows, with_row, with_rows, part_of, first_in, free_in, deal_in, hold_in, moves_in}

@@ -5,13 +5,13 @@ use Rattle.dh_base.specs.declared.id.Id.{Id}
 use Rattle.dh_base.specs.declared.outcome.Outcome.{Outcome}
 use Rattle.escrow_book.specs.declared.change.Change.{Change}
 use Rattle.escrow_book.specs.declared.change.Change.TheVariants.{Registered, Escrowed, Transferred, Paid, Settled}
-use Rattle.escrow_book.specs.Opening.{same_id}
+use Rattle.dh_base.specs.Ids.{same_id}
 use Rattle.escrow_book.specs.Base.{Base}
 use Rattle.escrow_book.specs.History.{settlement}
 use Rattle.escrow_book.specs.Kept.{ended_here}
 use Rattle.escrow_book.specs.Reached.{IsGrown}
 use Rattle.escrow_book.proofs.Sums.{sum_same_all, sum_zero, sum_add, sum_swap}
-use Rattle.escrow_book.proofs.Same.{same_id-swap}
+use Rattle.dh_base.proofs.SameIds.{same_id-swap}
 use Rattle.escrow_book.proofs.Lookups.{worth}
 use Rattle.escrow_book.proofs.Steps.{history}
 use Rattle.escrow_book.proofs.Once.{settled_once}

@@ -8,7 +8,7 @@ use Rattle.std.proofs.lemmas.List.Sums.{sum_by-cons, sum_by-append}
 use Rattle.dh_base.specs.declared.id.Id.{Id}
 use Rattle.escrow_book.specs.declared.change.Change.{Change}
 use Rattle.escrow_book.specs.declared.change.Change.TheVariants.{Registered, Escrowed, Transferred, Paid, Settled}
-use Rattle.escrow_book.specs.Opening.{same_id}
+use Rattle.dh_base.specs.Ids.{same_id}
 use Rattle.escrow_book.specs.Base.{Carried, nothing_carried, carried_parties, carried_moves}
 use Rattle.escrow_book.specs.History.{History, with_change, with_changes, first_answer, registration, parties_of, escrowed, received, given, is_move, moves_of, if_commit_of}
 use Rattle.escrow_book.specs.Reached.{IsReached, AreAccepted, are_parties, begun}

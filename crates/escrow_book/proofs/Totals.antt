@@ -8,14 +8,15 @@ use Rattle.dh_base.specs.declared.outcome.Outcome.{Outcome}
 use Rattle.dh_base.specs.declared.outcome.Outcome.TheVariants.{Commit, Abort}
 use Rattle.escrow_book.specs.declared.change.Change.{Change}
 use Rattle.escrow_book.specs.declared.change.Change.TheVariants.{Registered, Escrowed, Transferred, Paid, Settled}
-use Rattle.escrow_book.specs.Opening.{Row, same_id, opening_of, total_of}
+use Rattle.escrow_book.specs.Opening.{Row, opening_of, total_of}
+use Rattle.dh_base.specs.Ids.{same_id}
 use Rattle.escrow_book.specs.Base.{Base, Carried, nothing_carried, carried_commit, carried_abort, carried_payout}
 use Rattle.escrow_book.specs.Kept.{ended_here}
 use Rattle.escrow_book.specs.History.{History, registration, parties_of, settlement_of, escrowed, received, given, if_abort_of, if_commit_of, deal_came, deal_went, payout_of, paid_to, paid_out, paid_from, put_up, free_came, free_went, free_of}
 use Rattle.escrow_book.specs.Reached.{IsGrown, are_different}
 use Rattle.escrow_book.specs.Conserved.{NothingIsCut, AreItsAccounts, IsConserved, named, are_in, held_in, held_of}
 use Rattle.escrow_book.proofs.Sums.{sum_same, sum_same_all, sum_zero, sum_add, sum_swap, all_weaker, all_by_all}
-use Rattle.escrow_book.proofs.Same.{id_from_same, same_id-swap}
+use Rattle.dh_base.proofs.SameIds.{id_from_same, same_id-swap}
 use Rattle.escrow_book.proofs.Lookups.{worth}
 use Rattle.escrow_book.proofs.Steps.{history}
 use Rattle.escrow_book.proofs.Once.{registered_once}

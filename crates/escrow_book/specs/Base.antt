@@ -1,7 +1,7 @@
 -- What a history begins with: the free amounts, and what is carried along of deals that began
 -- before. A whole book carries nothing; a part of a book carries the deals that it touches, what
 -- its parties hold there, and their moves.
-use Rattle.std.specs.Prelude.{ℕ, ◌^◌, ◌+◌, ◌<◌, ◌≤◌, ◌≡◌, max, Bool, true, ◌&&◌, if◌then◌else◌, Option, is_some, List, []}
+use Rattle.std.specs.Prelude.{ℕ, ◌^◌, ◌-◌, ◌+◌, ◌<◌, ◌≤◌, ◌≡◌, max, Bool, true, ◌&&◌, if◌then◌else◌, Option, is_some, List, []}
 use Rattle.std.specs.List.{sum_by, find, AllByRecursion}
 use Rattle.std.specs.Option.{option_map, option_and_then, option_map_or}
 use Rattle.std.specs.Str.{bytes_eq}
@@ -12,7 +12,8 @@ use Rattle.escrow_book.specs.declared.known_deal.KnownDeal.{KnownDeal}
 use Rattle.escrow_book.specs.declared.row.HoldRow.{HoldRow}
 use Rattle.escrow_book.specs.declared.row.MovesRow.{MovesRow}
 use Rattle.dh_base.specs.Amounts.{greatest_amount}
-use Rattle.escrow_book.specs.Opening.{Row, same_id, total_of}
+use Rattle.escrow_book.specs.Opening.{Row, total_of}
+use Rattle.dh_base.specs.Ids.{same_id}
 
 pub record Carried : Type 0 where
   pub deals : List KnownDeal
@@ -48,7 +49,7 @@ is_moves deal party row = same_id deal row.deal && same_id party row.account
 
 -- a party has made fewer transfers than a turn can count
 abbrev pub greatest_turn : ℕ
-greatest_turn = 4294967295
+greatest_turn = 2 ^ 32 - 1
 
 -- what the party is carried with: the row that stands first, and 0 where there is none
 abbrev pub carried_commit : Carried → Id → Id → List ℕ → ℕ

@@ -10,7 +10,8 @@ use Rattle.escrow_book.specs.declared.entry.Entry.{Entry}
 use Rattle.escrow_book.specs.declared.known_deal.KnownDeal.{KnownDeal}
 use Rattle.escrow_book.specs.declared.row.HoldRow.{HoldRow}
 use Rattle.escrow_book.specs.declared.row.MovesRow.{MovesRow}
-use Rattle.escrow_book.specs.Opening.{Row, same_id}
+use Rattle.escrow_book.specs.Opening.{Row}
+use Rattle.dh_base.specs.Ids.{same_id}
 use Rattle.escrow_book.specs.Base.{Base, find_deal}
 use Rattle.escrow_book.specs.History.{History, first_answer, settlement, parties_of, settlement_of}
 use Rattle.escrow_book.specs.Reached.{IsGrown}

@@ -3,10 +3,8 @@ use Rattle.std.specs.Prelude.{ℕ, Bool, true, not, ◌&&◌, nat_lt, nat_le, if
 use Rattle.std.specs.List.{sum_by, list_any}
 use Rattle.std.specs.Str.{bytes_eq}
 use Rattle.dh_base.specs.Amounts.{greatest_amount}
+use Rattle.dh_base.specs.Ids.{same_id}
 use Rattle.dh_base.specs.declared.id.Id.{Id}
-
-abbrev pub same_id : Id → Id → Bool
-same_id one other = bytes_eq one.0 other.0
 
 -- an account, an asset and an amount
 abbrev pub Row : Type 0

@@ -12,7 +12,8 @@ use Rattle.escrow_book.specs.declared.known_deal.KnownDeal.{KnownDeal}
 use Rattle.escrow_book.specs.declared.part_fault.PartFault.{PartFault}
 use Rattle.escrow_book.specs.declared.part_fault.PartFault.TheVariants.{BadRows, SumTooLarge, NoMemory}
 use Rattle.dh_base.specs.Amounts.{greatest_amount}
-use Rattle.escrow_book.specs.Opening.{same_id, has_row}
+use Rattle.escrow_book.specs.Opening.{has_row}
+use Rattle.dh_base.specs.Ids.{same_id}
 use Rattle.escrow_book.specs.Base.{Base, nothing_carried, find_deal, carried_parties, is_hold, is_moves, greatest_turn, base_total}
 use Rattle.escrow_book.specs.History.{History, is_among, parties_of, settlement_of, moves_of, if_commit_of, if_abort_of, free_of}
 use Rattle.escrow_book.specs.Reached.{begun, are_different}

@@ -1,6 +1,7 @@
 -- The histories that a book can have.
 use Rattle.std.specs.Prelude.{ℕ, if◌then◌else◌, ◌≡◌, ◌<◌, Bool, true, not, ◌&&◌, nat_le, None, List, [], ◌∷◌, length, IsTrue}
 use Rattle.dh_base.specs.declared.id.Id.{Id}
+use Rattle.dh_base.specs.Limits.{most_parties}
 use Rattle.escrow_book.specs.declared.change.Change.{Change}
 use Rattle.escrow_book.specs.declared.change.Change.TheVariants.{Registered, Escrowed, Transferred, Paid, Settled}
 use Rattle.escrow_book.specs.Opening.{Row, is_good_opening}
@@ -11,10 +12,6 @@ use Rattle.escrow_book.specs.Refused.{escrow_refusal, transfer_refusal, pay_refu
 abbrev pub are_different : List Id → Bool
 are_different [] = true
 are_different (account ∷ accounts) = not (is_in account accounts) && are_different accounts
-
--- the most parties of a deal
-abbrev pub most_parties : ℕ
-most_parties = 16
 
 -- 2 to 16 different parties
 abbrev pub are_parties : List Id → Bool

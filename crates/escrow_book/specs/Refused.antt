@@ -4,7 +4,7 @@ use Rattle.std.specs.Option.{option_map, option_or}
 use Rattle.dh_base.specs.declared.id.Id.{Id}
 use Rattle.escrow_book.specs.declared.fault.BookFault.{BookFault}
 use Rattle.escrow_book.specs.declared.fault.BookFault.TheVariants.{UnknownDeal, NotAParty, DealSettled, WrongTurn, ZeroOrSelf, Short, NoMemory}
-use Rattle.escrow_book.specs.Opening.{same_id}
+use Rattle.dh_base.specs.Ids.{same_id}
 use Rattle.escrow_book.specs.History.{History, is_known, is_party, settlement_of, moves_of, if_commit_of, free_of}
 
 -- the first refusal of the list

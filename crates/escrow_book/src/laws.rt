@@ -48,7 +48,8 @@ pub fn reached_grows()
         → IsReached history
         → escrow_refusal history deal party asset amount ≡ None
         → IsReached (with_change history (Escrowed deal party asset amount)) }
-    ensures transfer { (history : History) (deal from : Id) (turn : ℕ) (to : Id) (asset : List ℕ) (amount : ℕ)
+    ensures transfer { (history : History) (deal from : Id) (turn : ℕ) (to : Id)
+        (asset : List ℕ) (amount : ℕ)
         → IsReached history
         → moves_of history deal from < greatest_turn
         → transfer_refusal history deal from turn to asset amount ≡ None
@@ -71,7 +72,8 @@ pub fn settled_once()
     ensures outcome_stays { (history : History) (more : List Change) (deal : Id) (outcome : Outcome)
         → settlement_of history deal ≡ Some outcome
         → settlement_of (with_changes history more) deal ≡ Some outcome }
-    ensures payout_stays { (history : History) (more : List Change) (deal party : Id) (asset : List ℕ)
+    ensures payout_stays { (history : History) (more : List Change) (deal party : Id)
+        (asset : List ℕ)
         (outcome : Outcome)
         → IsReached (with_changes history more) → settlement_of history deal ≡ Some outcome
         → payout_of (with_changes history more) deal outcome party asset
@@ -136,7 +138,8 @@ pub fn part_stands()
         → AgreeOnEscrow part whole deal party asset
         → escrow_refusal part deal party asset amount
         ≡ escrow_refusal whole deal party asset amount }
-    ensures transfer { (part whole : History) (deal from : Id) (turn : ℕ) (to : Id) (asset : List ℕ) (amount : ℕ)
+    ensures transfer { (part whole : History) (deal from : Id) (turn : ℕ) (to : Id)
+        (asset : List ℕ) (amount : ℕ)
         → AgreeOnTransfer part whole deal from to asset
         → transfer_refusal part deal from turn to asset amount
         ≡ transfer_refusal whole deal from turn to asset amount }
@@ -220,10 +223,12 @@ pub fn part_has_its_rows()
         ≡ option_and_then (λ (known : KnownDeal). known.outcome) (first_in (deal_in deal) rows) }
     ensures if_commit { (rows : List BookRow) (deal party : Id) (asset : List ℕ)
         → if_commit_of (part_of rows) deal party asset
-        ≡ option_map_or (λ (row : HoldRow). row.commit) (first_in (hold_in deal party asset) rows) 0 }
+        ≡ option_map_or (λ (row : HoldRow). row.commit)
+        (first_in (hold_in deal party asset) rows) 0 }
     ensures if_abort { (rows : List BookRow) (deal party : Id) (asset : List ℕ)
         → if_abort_of (part_of rows) deal party asset
-        ≡ option_map_or (λ (row : HoldRow). row.abort) (first_in (hold_in deal party asset) rows) 0 }
+        ≡ option_map_or (λ (row : HoldRow). row.abort)
+        (first_in (hold_in deal party asset) rows) 0 }
     ensures moves { (rows : List BookRow) (deal party : Id) → moves_of (part_of rows) deal party
         ≡ option_map_or (λ (row : MovesRow). row.moves) (first_in (moves_in deal party) rows) 0 }
 {}

@@ -13,7 +13,8 @@ use Rattle.keeper_core.specs.Tables.{Tables}
 use Rattle.keeper_core.specs.Batches.{after_batch}
 use Rattle.keeper_core.specs.Knowing.{Known}
 
--- how a call over a keeper ended: `failed` where the keeper failed it, `starved` for want of memory, `refused` for any other cause
+-- how a call over a keeper ended: `failed` where the keeper failed it, `starved` for want of
+-- memory, `refused` for any other cause
 pub data Ended : Type 0 where
   done : Ended
   failed : Ended
@@ -46,8 +47,10 @@ KeepsTold before after = IfSome after (λ _. after ≡ before)
 abbrev pub Applies : Option Tables → List (List Change) → Option Tables → Type 0
 Applies before batches after = IfSome after (λ _. after ≡ option_map (after_batches batches) before)
 
--- A front of the batches is made. That is not all of them, unless there are none or the keeper stopped.
-pub record AppliesFront (halts : Type 0) (before : Option Tables) (batches : List (List Change)) (after : Option Tables) : Type 0 where
+-- A front of the batches is made. That is not all of them, unless there are none or the keeper
+-- stopped.
+pub record AppliesFront (halts : Type 0) (before : Option Tables) (batches : List (List Change))
+    (after : Option Tables) : Type 0 where
   pub made : List (List Change)
   pub left : List (List Change)
   pub parted : batches ≡ made ++ left
@@ -115,8 +118,8 @@ pub record IsRefused (before after : Known) : Type 0 where
   pub unchanged : KeepsTold before.tables after.tables
   pub quiet : IsQuiet before after
 
--- What a call that commits these batches, in this order, leaves of its keeper. Where a call reads behind its last commit,
--- a batch of no changes stands for what it reads.
+-- What a call that commits these batches, in this order, leaves of its keeper. Where a call reads
+-- behind its last commit, a batch of no changes stands for what it reads.
 abbrev pub Leaves : List (List Change) → Ended → Known → Known → Type 0
 Leaves batches done before after = IsDone batches before after
 Leaves batches failed before after = IsFailed batches before after

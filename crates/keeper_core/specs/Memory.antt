@@ -24,12 +24,25 @@ keeper_code = code_by (Tables × (Option Arm × (Bool × (ℕ × ℕ))))
     (coded× tables_code (coded× (coded_option arm.the_row.coded)
     (coded× coded_bool (coded× coded_ℕ coded_ℕ))))
     (λ k. (k.tables, (k.armed, (k.stopped, (k.faults, k.looked)))))
-    (λ p. record { tables = p.0; armed = p.1.0; stopped = p.1.1.0; faults = p.1.1.1.0; looked = p.1.1.1.1 })
+    (λ p. record {
+      tables = p.0;
+      armed = p.1.0;
+      stopped = p.1.1.0;
+      faults = p.1.1.1.0;
+      looked = p.1.1.1.1;
+    })
     (λ _. refl)
 
 -- what is known of a keeper in memory: it always tells its map and what is to come
 abbrev pub known_of : KeeperTold → Known
-known_of keeper = record { tables = Some keeper.tables; stopped = keeper.stopped; faults = keeper.faults; looked = keeper.looked; coming = Some keeper.armed }
+known_of keeper =
+    record {
+      tables = Some keeper.tables;
+      stopped = keeper.stopped;
+      faults = keeper.faults;
+      looked = keeper.looked;
+      coming = Some keeper.armed;
+    }
 
 abbrev pub is_fail_next : Option Arm → Bool
 is_fail_next None = false
@@ -43,7 +56,11 @@ fails_next keeper = keeper.stopped || is_fail_next keeper.armed
 
 -- after that call: the arm has taken effect, and the fault is counted
 abbrev pub after_failure : KeeperTold → KeeperTold
-after_failure keeper = record keeper { armed = if is_fail_next keeper.armed then None else keeper.armed; faults = one_more 64 keeper.faults }
+after_failure keeper =
+    record keeper {
+      armed = if is_fail_next keeper.armed then None else keeper.armed;
+      faults = one_more 64 keeper.faults;
+    }
 
 -- so many more, but the greatest value stays
 abbrev pub raised : ℕ → ℕ → ℕ
@@ -63,7 +80,13 @@ after_reading n keeper = if fails_next keeper then after_failure keeper else aft
 
 -- stopped with this map: the arm has taken effect, and the fault is counted
 abbrev pub stopped_with : Tables → KeeperTold → KeeperTold
-stopped_with tables keeper = record keeper { tables = tables; armed = None; stopped = true; faults = one_more 64 keeper.faults }
+stopped_with tables keeper =
+    record keeper {
+      tables = tables;
+      armed = None;
+      stopped = true;
+      faults = one_more 64 keeper.faults;
+    }
 
 -- how a commit stops the keeper, if it does
 abbrev pub stop_at_commit : Option Arm → List Change → KeeperTold → Option KeeperTold
@@ -76,7 +99,8 @@ stop_at_commit (Some StopAfter) changes keeper =
 -- how a commit fails, if it does
 abbrev pub failure_of_commit : List Change → KeeperTold → Option KeeperTold
 failure_of_commit changes keeper =
-    if fails_next keeper then Some (after_failure keeper) else stop_at_commit keeper.armed changes keeper
+    if fails_next keeper then Some (after_failure keeper)
+    else stop_at_commit keeper.armed changes keeper
 
 -- all changes are made, and nothing else
 abbrev pub after_commit : List Change → KeeperTold → KeeperTold

@@ -1,4 +1,5 @@
--- How a keeper in memory holds its map: in slots, of which some are empty. A slot is room for a row.
+-- How a keeper in memory holds its map: in slots, of which some are empty. A slot is room for a
+-- row.
 use Rattle.std.specs.Prelude.{ℕ, if◌then◌else◌, List, [], ◌∷◌, Option, Some, None}
 use Rattle.std.specs.declared.cmp.Ordering.{Ordering}
 use Rattle.std.specs.Ordering.{nat_cmp}

@@ -1,5 +1,5 @@
--- What a call of a node does by the state that its keeper's tables stand for. These words are the same for every node: S is
--- its state, A the answer of the call, and F its fault.
+-- What a call of a node does by the state that its keeper's tables stand for. These words are the
+-- same for every node: S is its state, A the answer of the call, and F its fault.
 use Rattle.std.specs.Prelude.{◌≡◌, ◌⊎◌, if◌then◌else◌, List, [], ◌∷◌, Option, Some, None, is_some, IfSome, IsTrue, Result, Ok, Err, OnOk, OnErr}
 use Rattle.keeper_core.specs.declared.change.Change.{Change}
 use Rattle.keeper_core.specs.Tables.{Tables}
@@ -11,7 +11,8 @@ abbrev pub WhereTold : Known → Known → (Tables → Type 0) → Type 0
 WhereTold before after P = IfSome after.tables (λ _. IfSome before.tables P)
 
 -- The call leaves what these batches leave, which the map before it determines.
-pub record LeavesBy (batches_of : Tables → List (List Change)) (how : Ended) (before after : Known) : Type 0 where
+pub record LeavesBy (batches_of : Tables → List (List Change)) (how : Ended)
+    (before after : Known) : Type 0 where
   pub batches : List (List Change)
   pub made : WhereTold before after (λ tables. batches ≡ batches_of tables)
   pub leaves : Leaves batches how before after
@@ -43,8 +44,8 @@ commits_unless refusal_of batches_of tables =
 abbrev pub Backs : {S : Type 0} → (Tables → S → Type 0) → Option Tables → S → Type 0
 Backs StandsFor told state = IfSome told (λ tables. StandsFor tables state)
 
--- The reply is that of the state, and the tables then stand for the next one, or after a fault still for the state. Where the
--- keeper stopped in the call, they stand for the one or the other.
+-- The reply is that of the state, and the tables then stand for the next one, or after a fault
+-- still for the state. Where the keeper stopped in the call, they stand for the one or the other.
 pub record Steps {S A F : Type 0} (StandsFor : Tables → S → Type 0) (by_fault : F → Ended)
     (refusal : Option F) (IsAnswer : A → Type 0) (state next : S) (result : Result A F)
     (before after : Known) : Type 0 where

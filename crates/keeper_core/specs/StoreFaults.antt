@@ -23,15 +23,18 @@ store_fault_told NoMemory = told_of 3 (codes "NoMemory") [] ∷ []
 abbrev pub bad_row_of : ℕ → List ℕ → StoreFault
 bad_row_of tab key = BadRow tab (record { 0 = sha256 key })
 
--- A row of the table whose key has that digest lacks its form, and stands in the map where that is told.
-pub record IsBadRow (LacksForm : Row → Type 0) (told : Option Tables) (tab : ℕ) (digest : Id) : Type 0 where
+-- A row of the table whose key has that digest lacks its form, and stands in the map where that is
+-- told.
+pub record IsBadRow (LacksForm : Row → Type 0) (told : Option Tables) (tab : ℕ)
+    (digest : Id) : Type 0 where
   pub row : Row
   pub named : digest.0 ≡ sha256 row.key
   pub lacks : LacksForm row
   pub stands : IfSome told (λ tables. get tables (tab, row.key) ≡ Some row.val)
 
--- Why a call over a keeper answers a fault: the row that is named lacks the form of its table's rows. That the count rose
--- where the keeper failed is said by what the call leaves of the keeper. Want of memory has no cause.
+-- Why a call over a keeper answers a fault: the row that is named lacks the form of its table's
+-- rows. That the count rose where the keeper failed is said by what the call leaves of the keeper.
+-- Want of memory has no cause.
 abbrev pub HasCause : (ℕ → Row → Type 0) → Option Tables → StoreFault → Type 0
 HasCause LacksForm told Keeper = Unit {0}
 HasCause LacksForm told (BadRow tab key) = IsBadRow (LacksForm tab) told tab key

@@ -45,7 +45,8 @@ impl Batch {
         Ok(())
     }
 
-    /// Deletes a key of a table with its bytes, after the other changes. A key that has none stays so.
+    /// Deletes a key of a table with its bytes, after the other changes. A key that has none stays
+    /// so.
     pub fn del(&mut self, tab: u8, key: &[u8]) -> Result<(), NoMemory>
         ensures ok { OnOk result (self.new ≡ self.old ++ Delete tab key.now ∷ []) }
         ensures err { OnErr result (self.new ≡ self.old) }

@@ -11,8 +11,9 @@ use crate::keep_fault::KeepFault;
 use crate::row::Row;
 use dh_base::List;
 
-/// A keeper of rows: one finite map from a table and a key to bytes, with a count of the calls that failed and one of
-/// the rows that were looked up. A keeper may stop at a commit. From then on each call fails, until it is started again.
+/// A keeper of rows: one finite map from a table and a key to bytes, with a count of the calls that
+/// failed and one of the rows that were looked up. A keeper may stop at a commit. From then on each
+/// call fails, until it is started again.
 pub trait Keeper {
     ghost known: { Self → Known };
 
@@ -30,8 +31,8 @@ pub trait Keeper {
         ensures fails { FailsNext (known self.old) → IsErrOf result KeepFault.Failed }
         ensures looked { LooksAtMost (1 + rows_given result) (known self.old) (known self.new) };
 
-    /// Makes all changes of the batch, in their order, or none. Only where the keeper stops by this call
-    /// may all changes be made though the answer is `Failed`.
+    /// Makes all changes of the batch, in their order, or none. Only where the keeper stops by this
+    /// call may all changes be made though the answer is `Failed`.
     fn commit(&mut self, batch: &Batch) -> Result<(), KeepFault>
         ensures leaves { Leaves (batch.now ∷ []) (ended of_keep_fault result)
             (known self.old) (known self.new) }

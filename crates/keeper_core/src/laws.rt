@@ -45,9 +45,9 @@ pub fn one_numbering()
     ensures { OneNumbering }
 {}
 
-/// A commit after a call that made batches is a call with these and the new one. What is read after a call, or not
-/// committed any more after a refusal, changes nothing of what the call leaves. A call that may fail at what it reads
-/// behind its last commit names a batch of no changes there.
+/// A commit after a call that made batches is a call with these and the new one. What is read after
+/// a call, or not committed any more after a refusal, changes nothing of what the call leaves. A
+/// call that may fail at what it reads behind its last commit names a batch of no changes there.
 pub fn calls_follow()
     ensures commits { CommitsFollow }
     ensures calls { CallsFollow }

@@ -1,5 +1,6 @@
-//! Keepers: what a node keeps, so that it is there when the node is opened again. A keeper is one finite
-//! map from a table and a key to bytes. A batch of changes is committed as a whole or not at all.
+//! Keepers: what a node keeps, so that it is there when the node is opened again. A keeper is one
+//! finite map from a table and a key to bytes. A batch of changes is committed as a whole or not at
+//! all.
 //!
 //! - `arm`: the ways in which a keeper in memory fails or stops where a test wants it to
 //! - `batch`, `change`: the changes that a commit makes

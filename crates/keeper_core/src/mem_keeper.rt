@@ -96,7 +96,8 @@ impl MemKeeper {
         cells
     }
 
-    /// Tells the keeper to fail or to stop. What it was told before and hasn't done yet is forgotten.
+    /// Tells the keeper to fail or to stop. What it was told before and hasn't done yet is
+    /// forgotten.
     pub fn arm(&mut self, what: Arm)
         ensures { self.new ≡ record self.old { armed = Some what } }
     {
@@ -118,7 +119,8 @@ impl MemKeeper {
         self.stopped
     }
 
-    /// The bytes at a key of a table, also where the keeper has stopped. It takes no memory and never fails.
+    /// The bytes at a key of a table, also where the keeper has stopped. It takes no memory and
+    /// never fails.
     pub fn peek(&self, tab: u8, key: &[u8]) -> Option<&[u8]>
         ensures { option_copied result ≡ finite.get self.now.tables (tab, key.now) }
     {

@@ -22,8 +22,8 @@ use std::collections::BTreeMap;
 use std::marker::Model;
 use std::mem;
 
-/// A store in memory. It tells its maps, and fails the calls that it is told to fail. The map of a name is
-/// empty while its keeper is out.
+/// A store in memory. It tells its maps, and fails the calls that it is told to fail. The map of a
+/// name is empty while its keeper is out.
 #[derive(Drop)]
 pub struct MemStore {
     alloc: Global,
@@ -50,8 +50,8 @@ impl Model for MemStore {
 }
 
 impl MemStore {
-    /// A store whose maps are empty, of which the calls of `keep` with the numbers `fails`, from 0, are to
-    /// fail.
+    /// A store whose maps are empty, of which the calls of `keep` with the numbers `fails`, from 0,
+    /// are to fail.
     pub fn new(alloc: Global, fails: List<u32>) -> MemStore
         ensures { result ≡ record {
           maps = finite.empty;
@@ -87,7 +87,8 @@ impl MemStore {
         Ok(())
     }
 
-    /// Puts a map in the place of that of a name, and gives that one, or the same where there is no room.
+    /// Puts a map in the place of that of a name, and gives that one, or the same where there is no
+    /// room.
     fn replace(&mut self, name: &str, cells: Cells) -> Cells
         ensures maps { self.new ≡ record self.old {
           maps = with_map self.old.maps name.now (filled cells);

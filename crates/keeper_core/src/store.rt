@@ -11,8 +11,8 @@ ghost use Rattle.keeper_core.specs.Storing.{Hands, IsOut, LeavesOthers, LeavesAl
 use crate::keep_fault::KeepFault;
 use crate::keeper::Keeper;
 
-/// A store of keepers: a map for each name, with a count of the calls that failed. The map of a name is
-/// taken out with its keeper, and comes back with it.
+/// A store of keepers: a map for each name, with a count of the calls that failed. The map of a
+/// name is taken out with its keeper, and comes back with it.
 pub trait Store {
     type Keep: Keeper;
 
@@ -25,8 +25,8 @@ pub trait Store {
     /// How many calls have failed, of the store and of the keepers that came back. It never falls.
     ghost faults: { Self → ℕ };
 
-    /// The keeper of the map of a name. It runs, and no call of it has failed. From then on there is room
-    /// for the map of that name.
+    /// The keeper of the map of a name. It runs, and no call of it has failed. From then on there
+    /// is room for the map of that name.
     fn keep(&mut self, name: &str) -> Result<Self::Keep, KeepFault>
         ensures gives { IfOk result (λ keeper. Hands (map_of self.old name.now)
             (Self.Keep.known keeper).tables) }
@@ -41,8 +41,8 @@ pub trait Store {
             → HasRisen (faults self.old) (faults self.new) }
         ensures count { faults self.old ≤ faults self.new };
 
-    /// Takes a keeper back. Its map is the one of that name from then on, if there is room for it, and the
-    /// calls of it that failed count as those of the store. It takes no memory.
+    /// Takes a keeper back. Its map is the one of that name from then on, if there is room for it,
+    /// and the calls of it that failed count as those of the store. It takes no memory.
     fn back(&mut self, name: &str, keep: Self::Keep)
         ensures own { has_room self.old name.now
             → KeepsTold (Self.Keep.known keep).tables (map_of self.new name.now) }

@@ -7,7 +7,8 @@ use dh_base::{Id, List, NoMemory, Refusal};
 use std::alloc::Global;
 use std::test::Fail;
 
-/// A keeper with "one" at "a", "two" at "b" and "three" at "ab" of table 2, and "far" at "a" of table 7.
+/// A keeper with "one" at "a", "two" at "b" and "three" at "ab" of table 2, and "far" at "a" of
+/// table 7.
 fn filled(alloc: Global) -> Result<MemKeeper, KeepFault> {
     let mut batch = Batch::new(alloc);
     batch.put(2, b"b", b"two")?;

@@ -98,14 +98,24 @@ schema_code = coded_schema.the_row.coded
 abbrev pub rows_code : Coded (List Row)
 rows_code = coded_list coded_row.the_row.coded
 
--- The map is told while the connection is open, which it is only while its disk has returned what was written.
+-- The map is told while the connection is open, which it is only while its disk has returned what
+-- was written.
 abbrev pub told_by : State → Option Tables
 told_by s = if s.is_open then Some (tables_in s.now) else None
 
--- What is known of the keeper. It never stops, since it may fail a call and answer the next, and tells nothing of what is to come.
+-- What is known of the keeper. It never stops, since it may fail a call and answer the next, and
+-- tells nothing of what is to come.
 abbrev pub known_by : State → ℕ → ℕ → Known
-known_by s faults looked = record { tables = told_by s; stopped = false; faults = faults; looked = looked; coming = None }
+known_by s faults looked =
+    record {
+      tables = told_by s;
+      stopped = false;
+      faults = faults;
+      looked = looked;
+      coming = None;
+    }
 
 -- what is known of a keeper that was just made
 abbrev pub known_first : Option Tables → ℕ → Known
-known_first told faults = record { tables = told; stopped = false; faults = faults; looked = 0; coming = None }
+known_first told faults =
+    record { tables = told; stopped = false; faults = faults; looked = 0; coming = None }

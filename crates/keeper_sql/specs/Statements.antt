@@ -47,7 +47,15 @@ abbrev pub no_schema : Schema
 no_schema = record { tables = []; indexes = []; views = [] }
 
 abbrev pub cell_column : List ℕ → Kind → Column
-cell_column name kind = record { name = name; kind = kind; is_strict = true; not_null = true; default = Null; collation = Binary }
+cell_column name kind =
+    record {
+      name = name;
+      kind = kind;
+      is_strict = true;
+      not_null = true;
+      default = Null;
+      collation = Binary;
+    }
 
 -- the table that the text makes
 abbrev pub cell : Table

@@ -178,9 +178,12 @@ fn shows_none(rows: &[Row]) -> bool
 
 /// Whether a row of the keeper's table has a number that no table of a keeper has.
 fn has_strays<S: Alter>(conn: &mut Connection<S>) -> Result<bool, Error>
-    ensures none { HasCleanDisk (state S.Store conn.new) → (state S.Store conn.old).now.schema ≡ the_schema
-        → IfOk result (λ some. some ≡ false → filter is_stray ((state S.Store conn.old).now.trees 0) ≡ []) }
-    ensures unchanged { HasCleanDisk (state S.Store conn.new) → (state S.Store conn.old).now.schema ≡ the_schema
+    ensures none { HasCleanDisk (state S.Store conn.new)
+        → (state S.Store conn.old).now.schema ≡ the_schema
+        → IfOk result (λ some. some ≡ false
+        → filter is_stray ((state S.Store conn.old).now.trees 0) ≡ []) }
+    ensures unchanged { HasCleanDisk (state S.Store conn.new)
+        → (state S.Store conn.old).now.schema ≡ the_schema
         → OnOk result (IsUnchanged (state S.Store conn.old) (state S.Store conn.new)) }
     ensures clean { HasCleanDisk (state S.Store conn.new) → HasCleanDisk (state S.Store conn.old) }
     ensures idle { conn.old.in_transaction ≡ false → conn.new.in_transaction ≡ false }
@@ -190,7 +193,8 @@ fn has_strays<S: Alter>(conn: &mut Connection<S>) -> Result<bool, Error>
     Ok(!none)
 }
 
-/// The connection, opened anew over its store, which gives up what is not committed; and what its first tree is.
+/// The connection, opened anew over its store, which gives up what is not committed; and what its
+/// first tree is.
 fn reopened<S: Alter + Drop>(
     alloc: Global,
     conn: Connection<S>,
@@ -279,7 +283,8 @@ pub(crate) fn adopted<S: Alter + Drop>(
     alloc: Global,
     conn: Connection<S>,
 ) -> Result<Connection<S>, Error>
-    ensures kept { IfOk result (λ c. IsTrue (state S.Store c).is_open → IsKept (state S.Store c).now) }
+    ensures kept { IfOk result (λ c. IsTrue (state S.Store c).is_open
+        → IsKept (state S.Store c).now) }
     ensures map { IfOk result (λ c. IsTrue (state S.Store c).is_open
         → tables_in (state S.Store c).now ≡ tables_in (state S.Store conn).committed) }
     ensures idle { IfOk result (λ c. c.in_transaction ≡ false) }

@@ -1,5 +1,5 @@
-//! The keeper over a database: the rows that a node keeps, in the one table of an SQL database, which is
-//! there when the node is opened again.
+//! The keeper over a database: the rows that a node keeps, in the one table of an SQL database,
+//! which is there when the node is opened again.
 //!
 //! - `adoption`: the table of a database that is there already
 //! - `changes`: the changes of a batch, made in one transaction

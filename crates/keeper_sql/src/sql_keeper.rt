@@ -19,8 +19,8 @@ use keeper_core::{Batch, KeepFault, Keeper, Row};
 use sqlite::{Alter, Connection, Error, ErrorCode, MemStore};
 use std::alloc::Global;
 
-/// A keeper over the table of a database. It tells its map while the connection is open and its disk has
-/// returned what was written.
+/// A keeper over the table of a database. It tells its map while the connection is open and its
+/// disk has returned what was written.
 #[derive(Drop)]
 pub struct SqlKeeper<S: Alter> {
     conn: Connection<S>,
@@ -60,7 +60,8 @@ fn fresh(alloc: Global) -> Result<Connection<MemStore>, Error>
 impl SqlKeeper<MemStore> {
     ghost use Rattle.keeper_sql.specs.CellRows.{known_by, known_first};
 
-    /// A keeper of no rows over a database in memory. Its count of faults begins at the number that is handed in.
+    /// A keeper of no rows over a database in memory. Its count of faults begins at the number that
+    /// is handed in.
     pub fn in_memory(alloc: Global, faults: &mut u64) -> Result<SqlKeeper<MemStore>, KeepFault>
         ensures known { IfOk result (λ k. known_by (state over_memory k.conn) k.faults k.looked
             ≡ known_first (Some finite.empty) faults.new) }
@@ -97,9 +98,10 @@ impl<S: Alter> SqlKeeper<S> {
 }
 
 impl<S: Alter + Drop> SqlKeeper<S> {
-    /// A keeper over an open connection, whose database has the keeper's table and nothing else, or nothing at all; then
-    /// the table is made. Its count of faults begins at the number that is handed in. The connection is opened anew, so
-    /// what it has not committed is given up; where the call is refused, the connection is.
+    /// A keeper over an open connection, whose database has the keeper's table and nothing else, or
+    /// nothing at all; then the table is made. Its count of faults begins at the number that is
+    /// handed in. The connection is opened anew, so what it has not committed is given up; where
+    /// the call is refused, the connection is.
     pub fn adopt(
         alloc: Global,
         connection: Connection<S>,

@@ -15,7 +15,8 @@ use Rattle.key_ring.specs.declared.env_fault.EnvFault.{EnvFault}
 use Rattle.key_ring.specs.declared.env_fault.EnvFault.TheVariants.{BadForm}
 use Rattle.key_ring.specs.declared.envelope.Envelope.{Envelope}
 use Rattle.key_ring.specs.declared.reading.EnvelopeAt.{EnvelopeAt}
-use Rattle.key_ring.specs.EnvelopeTexts.{text_field, envelope_text, most_message, IsWithinLimits, IsReadAt, Gives, in_form, text_at, sig_in_form, sig_at, envelope_from, envelope_of}
+use Rattle.dh_base.specs.Formats.{text_field}
+use Rattle.key_ring.specs.EnvelopeTexts.{envelope_text, most_message, IsWithinLimits, IsReadAt, Gives, in_form, text_at, sig_in_form, sig_at, envelope_from, envelope_of}
 
 in_form-ok : {A : Type 0} (r : Result A BaseFault) (x : A) → in_form r ≡ Ok x → r ≡ Ok x
 in_form-ok (Ok y) x e = cc

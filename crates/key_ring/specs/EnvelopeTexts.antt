@@ -4,6 +4,7 @@ use Rattle.std.specs.Int.{w32, to_be_bytes}
 use Rattle.dh_base.specs.declared.base_fault.BaseFault.{BaseFault}
 use Rattle.dh_base.specs.declared.base_fault.BaseFault.TheVariants.{Short, BadName}
 use Rattle.dh_base.specs.Fields.{◌>>=◌, StandsAt, bytes_at, number_at}
+use Rattle.dh_base.specs.Formats.{text_field}
 use Rattle.ots_core.specs.declared.ots_sig.OtsSig.{OtsSig}
 use Rattle.ots_core.specs.declared.sig_fault.SigFault.{SigFault}
 use Rattle.ots_core.specs.SignatureText.{sig_text, sig_of, IsSized}
@@ -12,12 +13,9 @@ use Rattle.key_ring.specs.declared.env_fault.EnvFault.TheVariants.{BadForm, NoMe
 use Rattle.key_ring.specs.declared.envelope.Envelope.{Envelope}
 use Rattle.key_ring.specs.declared.reading.EnvelopeAt.{EnvelopeAt}
 
--- a text behind its length
-abbrev pub text_field : List ℕ → List ℕ
-text_field text = to_be_bytes w32 (length text) ++ text
-
 abbrev pub envelope_text : Envelope → List ℕ
-envelope_text env = text_field env.ring ++ to_be_bytes w32 env.q ++ sig_text env.sig ++ text_field env.message
+envelope_text env =
+    text_field env.ring ++ to_be_bytes w32 env.q ++ sig_text env.sig ++ text_field env.message
 
 -- the most bytes of a message
 abbrev pub most_message : ℕ
@@ -45,7 +43,8 @@ abbrev pub in_form : {A : Type 0} → Result A BaseFault → Result A EnvFault
 in_form (Ok x) = Ok x
 in_form (Err fault) = Err (env_fault_of fault)
 
--- A text of at most that many bytes, and the place behind it. A greater length is out of range where the length stands.
+-- A text of at most that many bytes, and the place behind it. A greater length is out of range
+-- where the length stands.
 unfoldable pub text_at : ℕ → List ℕ → ℕ → Result (List ℕ × ℕ) EnvFault
 text_at most bytes at = do
   len ← in_form (number_at w32 bytes at)
@@ -70,7 +69,10 @@ envelope_from bytes at = do
   q ← in_form (number_at w32 bytes ring.1)
   sig ← sig_at bytes (ring.1 + 4)
   message ← text_at most_message bytes (ring.1 + 4 + 2180)
-  Ok (record { env = record { ring = ring.0; q = q; sig = sig; message = message.0 }; next = message.1 })
+  Ok (record {
+    env = record { ring = ring.0; q = q; sig = sig; message = message.0 };
+    next = message.1;
+  })
 
 -- all of the bytes
 unfoldable pub envelope_of : List ℕ → Result Envelope EnvFault

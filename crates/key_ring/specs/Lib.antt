@@ -2,8 +2,8 @@ pub mod Rings
 pub mod EnvelopeTexts
 pub mod Saying
 pub mod Making
-pub mod Answering
-pub mod EnvFaults
 pub mod Signers
-pub mod UsedTexts
+pub mod EnvFaults
 pub mod SignFaults
+pub mod UsedTexts
+pub mod Answering

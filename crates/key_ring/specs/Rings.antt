@@ -15,11 +15,15 @@ ring_tag = codes "CCDRING1"
 abbrev pub ring_text : Ring → List ℕ
 ring_text ring = ring_tag ++ ring.ident ++ to_be_bytes w16 (length ring.keys) ++ concat ring.keys
 
+-- the most keys of a ring
+abbrev pub most_keys : ℕ
+most_keys = 64
+
 -- 1 to 64 keys
 pub record IsRing (ring : Ring) : Type 0 where
   pub ident : length ring.ident ≡ 16
   pub some : 1 ≤ length ring.keys
-  pub few : length ring.keys ≤ 64
+  pub few : length ring.keys ≤ most_keys
   pub each : AllByRecursion (λ key. length key ≡ 32) ring.keys
 
 -- how many bytes from the front on are those of the tag
@@ -32,13 +36,14 @@ shared_len (t ∷ tag) (b ∷ text) = if t == b then suc (shared_len tag text) e
 abbrev pub said_keys : List ℕ → ℕ
 said_keys text = from_be_bytes w16 (take 2 (drop 24 text))
 
--- How many keys the ring of a text has; or the place of the text's first fault: the first byte that differs from the
--- tag, the number of keys where it is out of range, the text's end where it is cut, the first byte too many.
+-- How many keys the ring of a text has; or the place of the text's first fault: the first byte that
+-- differs from the tag, the number of keys where it is out of range, the text's end where it is
+-- cut, the first byte too many.
 unfoldable pub ring_size_of : List ℕ → Result ℕ ℕ
 ring_size_of text =
     if nat_lt (shared_len ring_tag text) 8 then Err (shared_len ring_tag text)
     else if nat_lt (length text) 26 then Err (length text)
-    else if said_keys text == 0 || nat_lt 64 (said_keys text) then Err 24
+    else if said_keys text == 0 || nat_lt most_keys (said_keys text) then Err 24
     else if nat_lt (length text) (26 + 32 * said_keys text) then Err (length text)
     else if nat_lt (26 + 32 * said_keys text) (length text) then Err (26 + 32 * said_keys text)
     else Ok (said_keys text)

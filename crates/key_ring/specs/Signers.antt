@@ -9,7 +9,8 @@ use Rattle.key_ring.specs.Rings.{ring_text}
 use Rattle.key_ring.specs.Making.{ring_made, envelope_made}
 use Rattle.key_ring.specs.declared.envelope.Envelope.{Envelope}
 
--- What a signer is seen as: what its ring is made from, and the texts that its keys 0, 1, 2 and so on have signed.
+-- What a signer is seen as: what its ring is made from, and the texts that its keys 0, 1, 2 and so
+-- on have signed.
 pub record SignerTold : Type 0 where
   pub spec : KeySpec
   pub texts : List (List ℕ)

@@ -1,4 +1,5 @@
--- What a keeper has of a signer: the texts that its keys have signed, each under the number of its key in four bytes.
+-- What a keeper has of a signer: the texts that its keys have signed, each under the number of its
+-- key in four bytes.
 use Rattle.std.specs.Prelude.{ℕ, ◌≡◌, ◌≤◌, ◌⊎◌, Bool, IsTrue, List, [], ◌∷◌, ◌++◌, length, is_some, if◌then◌else◌, Option, Some, IfSome, IsSomeAnd}
 use Rattle.std.specs.Int.{w32, to_be_bytes}
 use Rattle.std.specs.FinMap.{get}
@@ -26,7 +27,8 @@ StandsFor tables texts = IsNumbered w32 used_tab 0 texts tables
 abbrev pub IsKept : Tables → ℕ → List ℕ → Type 0
 IsKept tables q text = get tables (used_tab, to_be_bytes w32 q) ≡ Some text
 
--- The rows of the map stand for the texts. Where the keeper has stopped, one text more may stand behind them.
+-- The rows of the map stand for the texts. Where the keeper has stopped, one text more may stand
+-- behind them.
 abbrev pub IsBackedBy : Option Tables → Bool → List (List ℕ) → Type 0
 IsBackedBy told stopped texts = IfSome told (λ tables. StandsFor tables texts
     ⊎ (IsTrue stopped × (text : List ℕ) × StandsFor tables (texts ++ text ∷ [])))
@@ -44,13 +46,14 @@ abbrev pub batches_for : SignerTold → List ℕ → List (List Change)
 batches_for signer text = if is_some (key_of signer text) then [] else
     (kept_change signer text ∷ []) ∷ []
 
--- Every row of the table stays as it is, where the map is still told. What is told after was told before.
+-- Every row of the table stays as it is, where the map is still told. What is told after was told
+-- before.
 abbrev pub RowsStay : Option Tables → Option Tables → Type 0
 RowsStay before after = IfSome after (λ later. IsSomeAnd before (λ tables. (key text : List ℕ) →
     get tables (used_tab, key) ≡ Some text → get later (used_tab, key) ≡ Some text))
 
--- The first of the rows that lacks its form: behind rows of texts, its key is not the number of the rows before it, or
--- the ring has no key of that number.
+-- The first of the rows that lacks its form: behind rows of texts, its key is not the number of the
+-- rows before it, or the ring has no key of that number.
 pub record IsFirstAmiss (size : ℕ) (rows : List Row) (row : Row) : Type 0 where
   pub texts : List (List ℕ)
   pub behind : List Row

@@ -1,6 +1,7 @@
 //! The seed of a ring.
 
 ghost use Rattle.std.specs.Prelude.{◌≤◌};
+ghost use Rattle.key_ring.specs.Rings.{most_keys};
 
 /// What a ring is made from. Who has the seed can sign with every key of the ring.
 #[derive(Clone, Copy)]
@@ -11,5 +12,5 @@ pub struct KeySpec {
     /// How many keys the ring has.
     pub size: u16,
     pub ghost some: { 1 ≤ size },
-    pub ghost few: { size ≤ 64 },
+    pub ghost few: { size ≤ most_keys },
 }

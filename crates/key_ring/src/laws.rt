@@ -1,13 +1,14 @@
-//! Laws of the texts of rings and envelopes, one for each field and one for each text, of what is made from a
-//! seed, and of signers and what is kept of them.
+//! Laws of the texts of rings and envelopes, one for each field and one for each text, of what is
+//! made from a seed, and of signers and what is kept of them.
 
 ghost use Rattle.std.specs.Prelude.{◌≡◌, ◌↔◌, ◌≤◌, ◌<◌, ◌+◌, ◌^◌, ◌++◌, ℕ, List, length, Some, Ok};
 ghost use Rattle.sha2.specs.Sha256.{sha256};
 ghost use Rattle.dh_base.specs.Fields.{AreBytes, StandsAt};
 ghost use Rattle.ots_core.specs.SignatureText.{IsSized, sig_text};
 ghost use Rattle.ots_core.specs.declared.ots_sig.OtsSig.{OtsSig};
-ghost use Rattle.key_ring.specs.Rings.{Ring, IsRing, ring_text, ring_of};
-ghost use Rattle.key_ring.specs.EnvelopeTexts.{text_field, text_at, sig_at, envelope_text, envelope_from, envelope_of, IsReadAt, IsWithinLimits};
+ghost use Rattle.key_ring.specs.Rings.{Ring, IsRing, most_keys, ring_text, ring_of};
+ghost use Rattle.dh_base.specs.Formats.{text_field};
+ghost use Rattle.key_ring.specs.EnvelopeTexts.{text_at, sig_at, envelope_text, envelope_from, envelope_of, IsReadAt, IsWithinLimits};
 ghost use Rattle.key_ring.specs.Making.{ring_made, envelope_made};
 ghost use Rattle.key_ring.specs.Saying.{Says};
 ghost use Rattle.keeper_core.specs.Tables.{Tables};
@@ -23,7 +24,8 @@ pub fn rings_read()
         (ring_of text ≡ Ok ring) ↔ (IsRing ring × (text ≡ ring_text ring)) }
 {}
 
-/// A text behind its length is taken at a place exactly where it stands there, and has at most that many bytes.
+/// A text behind its length is taken at a place exactly where it stands there, and has at most that
+/// many bytes.
 pub fn texts_taken()
     ensures { (most : ℕ) (bytes text : List ℕ) (at next : ℕ) → AreBytes bytes → most < 2 ^ 32 →
         (text_at most bytes at ≡ Ok (text, next))
@@ -49,11 +51,13 @@ pub fn envelopes_read()
         (envelope_of bytes ≡ Ok env) ↔ (IsWithinLimits env × (bytes ≡ envelope_text env)) }
 {}
 
-/// The envelope in which a key of a ring signs a message says that message under the ring's account.
+/// The envelope in which a key of a ring signs a message says that message under the ring's
+/// account.
 pub fn made_says()
-    ensures { (seed ident message : List ℕ) (size q : ℕ) → length ident ≡ 16 → size ≤ 64
+    ensures { (seed ident message : List ℕ) (size q : ℕ) → length ident ≡ 16 → size ≤ most_keys
         → q < size →
-        Says (envelope_made seed ident size q message) (sha256 (ring_text (ring_made seed ident size))) q message }
+        Says (envelope_made seed ident size q message)
+        (sha256 (ring_text (ring_made seed ident size))) q message }
 {}
 
 /// A text that is signed belongs to its key from then on, whatever is signed later.
@@ -65,7 +69,8 @@ pub fn same_key_again()
         key_of (record signer { texts = signer.texts ++ more }) text ≡ Some q }
 {}
 
-/// The rows that stand for a signer's texts are loaded as these texts: they stand for no others, and none of them is amiss.
+/// The rows that stand for a signer's texts are loaded as these texts: they stand for no others,
+/// and none of them is amiss.
 pub fn loaded_again()
     ensures texts { (tables : Tables) (texts others : List (List ℕ)) → StandsFor tables texts
         → StandsFor tables others → texts ≡ others }

@@ -1,6 +1,7 @@
-//! Rings of one-time keys, and signed envelopes. A ring is the list of an account's public keys, and the
-//! account is the hash of the ring's text. An envelope carries a ring, the number of a key of it, a message
-//! and the signature of the message by that key: so it says the message under the account.
+//! Rings of one-time keys, and signed envelopes. A ring is the list of an account's public keys,
+//! and the account is the hash of the ring's text. An envelope carries a ring, the number of a key
+//! of it, a message and the signature of the message by that key: so it says the message under the
+//! account.
 //!
 //! - `key_spec`: the seed of a ring.
 //! - `ring`: the text of a ring, and its account.

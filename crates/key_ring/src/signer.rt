@@ -23,8 +23,8 @@ use ots_core::sign;
 use std::alloc::Global;
 use std::marker::Model;
 
-/// The keys of a ring, of which each signs one text. What a key has signed is kept before its signature leaves,
-/// so a signer that is loaded again never signs another text by that key.
+/// The keys of a ring, of which each signs one text. What a key has signed is kept before its
+/// signature leaves, so a signer that is loaded again never signs another text by that key.
 ///
 /// A contract sees what the ring is made from, and the texts that are signed.
 #[derive(Drop)]
@@ -199,9 +199,10 @@ impl Signer {
         Ok(self.seal(q, ring, message))
     }
 
-    /// The envelope in which a key of the ring signs the text. A text that was signed before gets the same envelope again,
-    /// and the keeper isn't asked. `reserve` keys are held back, for texts that are to come. Each signed text is kept
-    /// before its envelope is given; after a fault of a keeper that stopped, the signer is loaded again.
+    /// The envelope in which a key of the ring signs the text. A text that was signed before gets
+    /// the same envelope again, and the keeper isn't asked. `reserve` keys are held back, for texts
+    /// that are to come. Each signed text is kept before its envelope is given; after a fault of a
+    /// keeper that stopped, the signer is loaded again.
     pub fn sign<K: Keeper>(
         &mut self,
         keeper: &mut K,

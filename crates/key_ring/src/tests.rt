@@ -1,5 +1,5 @@
-//! The seed and the ident are those of the top level key of test case 2 in appendix F of RFC 8554. The
-//! account and the envelope's digest were computed outside.
+//! The seed and the ident are those of the top level key of test case 2 in appendix F of RFC 8554.
+//! The account and the envelope's digest were computed outside.
 
 ghost use Rattle.std.specs.Prelude.{◌≡◌};
 

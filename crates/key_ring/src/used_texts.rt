@@ -26,7 +26,8 @@ fn is_next(key: &[u8], texts: usize, size: u16) -> bool
     texts < size as usize && key == key_bytes(texts as u32).as_slice()
 }
 
-/// The texts of the rows, where each row is that of the next key of so many; or the first row that is not.
+/// The texts of the rows, where each row is that of the next key of so many; or the first row that
+/// is not.
 pub(crate) fn read_texts(
     alloc: Global,
     rows: List<Row>,

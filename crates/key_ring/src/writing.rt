@@ -2,26 +2,16 @@
 
 ghost use Rattle.std.specs.Prelude.{◌≡◌, ◌≤◌, ◌<◌, ◌+◌, ◌*◌, ◌^◌, ◌++◌, length, IfOk, OnOk};
 ghost use Rattle.sha2.specs.Sha256.{sha256};
-ghost use Rattle.key_ring.specs.EnvelopeTexts.{text_field, envelope_text};
+ghost use Rattle.key_ring.specs.EnvelopeTexts.{envelope_text};
 ghost use Rattle.key_ring.specs.Making.{envelope_made};
 ghost use Rattle.key_ring.specs.Saying.{Says};
 
 use crate::envelope::Envelope;
 use crate::key_spec::KeySpec;
 use crate::ring::make_ring;
-use dh_base::{List, NoMemory, put_u32};
+use dh_base::{List, NoMemory, put_text, put_u32};
 use ots_core::{sign, write_sig};
 use std::alloc::Global;
-
-/// Appends a text behind its length.
-fn put_text(out: &mut Vec<u8>, text: &[u8]) -> Result<(), NoMemory>
-    requires { length text.now < 2 ^ 32 }
-    ensures { OnOk result (out.new.items ≡ out.old.items ++ text_field text.now) }
-{
-    put_u32(out, text.len() as u32)?;
-    out.extend_from_slice(text)?;
-    Ok(())
-}
 
 /// The text of an envelope. It is read again where the message has at most 16,384 bytes.
 pub fn write_envelope(alloc: Global, env: &Envelope) -> Result<List<u8>, NoMemory>
@@ -39,8 +29,8 @@ pub fn write_envelope(alloc: Global, env: &Envelope) -> Result<List<u8>, NoMemor
     Ok(List::from_vec(text))
 }
 
-/// The envelope in which key `q` of the ring of a seed signs the message. Nothing keeps which keys have
-/// signed: who calls it sees to it that a key signs one message only.
+/// The envelope in which key `q` of the ring of a seed signs the message. Nothing keeps which keys
+/// have signed: who calls it sees to it that a key signs one message only.
 pub fn make_envelope(
     alloc: Global,
     spec: &KeySpec,

@@ -1,5 +1,5 @@
-//! The hashes of RFC 8554. Each begins with the ident of the key, its number, and two bytes that tell
-//! hashes of one kind from those of another.
+//! The hashes of RFC 8554. Each begins with the ident of the key, its number, and two bytes that
+//! tell hashes of one kind from those of another.
 
 ghost use Rattle.std.specs.Prelude.{◌≡◌, ◌++◌, ◌∷◌};
 ghost use Rattle.std.specs.Int.{w16, w32, to_be_bytes};

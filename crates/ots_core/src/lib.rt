@@ -1,5 +1,5 @@
-//! One-time signatures: LM-OTS of RFC 8554 with the parameters LMOTS_SHA256_N32_W4, by which each key
-//! signs one message. Nothing here takes memory.
+//! One-time signatures: LM-OTS of RFC 8554 with the parameters LMOTS_SHA256_N32_W4, by which each
+//! key signs one message. Nothing here takes memory.
 //!
 //! - `key_generation`, `signing`, `verifying`: a public key, the signature of a message, and whether a
 //!   signature is valid.

@@ -25,8 +25,8 @@ pub(crate) fn message_digest(ident: &[u8; 16], q: u32, c: &[u8; 32], msg: &[u8])
     hasher.finalize()
 }
 
-/// The signature of a message by key number `q` of the seed. A key that signs two different messages is
-/// broken, so its holder sees to it that it signs one.
+/// The signature of a message by key number `q` of the seed. A key that signs two different
+/// messages is broken, so its holder sees to it that it signs one.
 pub fn sign(seed: &[u8; 32], ident: &[u8; 16], q: u32, msg: &[u8]) -> OtsSig
     ensures { result ≡ keys.signature_of seed.now ident.now q msg.now }
 {

@@ -9,7 +9,7 @@ use Rattle.dh_base.specs.declared.outcome.Outcome.{Outcome}
 use Rattle.escrow_book.specs.declared.fault.BookFault.{BookFault}
 use Rattle.escrow_book.specs.declared.fault.BookFault.TheVariants as book
 use Rattle.escrow_book.specs.declared.change.Change.TheVariants as change
-use Rattle.escrow_book.specs.Base.{Carried, nothing_carried, carried_moves}
+use Rattle.escrow_book.specs.Base.{Carried, nothing_carried, carried_moves, greatest_turn}
 use Rattle.escrow_book.specs.History.{History, with_change, is_known, settlement_of, moves_of, is_move}
 use Rattle.escrow_book.specs.Refused.{IsRefusal, escrow_refusal, transfer_refusal}
 use Rattle.vote_log.specs.declared.decision.Decision.{Decision}
@@ -75,7 +75,7 @@ transfer_refused deal from turn to asset amount name h new entries d p q self fa
     (act_refused name h new entries from to (transfer_refusal h (plain_id deal) (plain_id from) turn (plain_id to) asset amount) (with_change h (change.Transferred (plain_id deal) (plain_id from) (plain_id to) asset amount)) fault result cause' same reply)
 
 -- the sender's transfers are no more than the ledger's entries
-pub moves_few : (h : History) (d p : Id) (entries : ℕ) → (length h.changes ≤ entries) × (h.carried ≡ nothing_carried) → entries < 4294967295 → moves_of h d p < 4294967295
+pub moves_few : (h : History) (d p : Id) (entries : ℕ) → (length h.changes ≤ entries) × (h.carried ≡ nothing_carried) → entries < greatest_turn → moves_of h d p < greatest_turn
 moves_few h d p entries kept few = omega (arith, kept.0, ap (λ (base : Carried). carried_moves base d p) kept.1, count_by-le-length (is_move d p) h.changes)
 
 -- ---- claims

@@ -35,13 +35,13 @@ pub record Follows (old new : LedgerTold) : Type 0 where
   pub name : new.name ≡ old.name
   pub opening : new.history.opening ≡ old.history.opening
   pub few : length new.history.changes ≤ length old.history.changes + 1
-  pub reached : IsReached old.history → length old.history.changes < 4294967295 → IsReached new.history
+  pub reached : IsReached old.history → length old.history.changes < greatest_turn → IsReached new.history
   pub keeps : (d : Id) (o : Outcome) → Contains old.history.changes (Settled d o) → Contains new.history.changes (Settled d o)
 
 pub stays : (ledger : LedgerTold) → Follows ledger ledger
 stays ledger = record { name = refl; opening = refl; few = omega arith; reached = λ reached few. reached; keeps = λ d o there. there }
 
-pub takes : (ledger : LedgerTold) (change : Change) → (IsReached ledger.history → length ledger.history.changes < 4294967295 → IsReached (with_change ledger.history change)) → Follows ledger (with_entry ledger (with_change ledger.history change))
+pub takes : (ledger : LedgerTold) (change : Change) → (IsReached ledger.history → length ledger.history.changes < greatest_turn → IsReached (with_change ledger.history change)) → Follows ledger (with_entry ledger (with_change ledger.history change))
 takes ledger change reached = record { name = refl; opening = refl; few = omega (arith, length-append ledger.history.changes (change ∷ [])); reached = reached; keeps = λ d o there. Contains-append_left ledger.history.changes (change ∷ []) (Settled d o) there }
 
 -- ---- acts settle nothing
@@ -77,7 +77,7 @@ refused_quiet ledger reply none = record { follows = stays ledger; settles = λ 
 abbrev LeavesOpen : Change → Type 0
 LeavesOpen change = (d : Id) (o : Outcome) → change ≡ Settled d o → ⊥
 
-taken_quiet : (ledger : LedgerTold) (change : Change) → LeavesOpen change → (IsReached ledger.history → length ledger.history.changes < 4294967295 → IsReached (with_change ledger.history change)) → IsQuiet ledger (accepts ledger (with_change ledger.history change))
+taken_quiet : (ledger : LedgerTold) (change : Change) → LeavesOpen change → (IsReached ledger.history → length ledger.history.changes < greatest_turn → IsReached (with_change ledger.history change)) → IsQuiet ledger (accepts ledger (with_change ledger.history change))
 taken_quiet ledger change other reached = record {
   follows = takes ledger change reached;
   settles = λ d o there. settled d o (Contains-push_cases ledger.history.changes change (Settled d o) there);
@@ -113,7 +113,7 @@ register_quiet laws ds deal party keep ledger = by (is_member (members_of ds dea
     by false other = refused_quiet ledger (RefusedAct (NotAParty party)) tt
 
 -- an act that the book refuses, or that its history accepts
-act_quiet : (ledger : LedgerTold) (first second : List ℕ) (refusal : Option BookFault) (change : Change) → LeavesOpen change → (refusal ≡ None → IsReached ledger.history → length ledger.history.changes < 4294967295 → IsReached (with_change ledger.history change)) → IsQuiet ledger (act_answer ledger first second refusal (with_change ledger.history change))
+act_quiet : (ledger : LedgerTold) (first second : List ℕ) (refusal : Option BookFault) (change : Change) → LeavesOpen change → (refusal ≡ None → IsReached ledger.history → length ledger.history.changes < greatest_turn → IsReached (with_change ledger.history change)) → IsQuiet ledger (act_answer ledger first second refusal (with_change ledger.history change))
 act_quiet ledger first second (Some fault) change other reached = refused_quiet ledger (RefusedAct (act_refusal first second fault)) tt
 act_quiet ledger first second None change other reached = taken_quiet ledger change other (reached refl)
 

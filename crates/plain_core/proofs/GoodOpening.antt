@@ -9,7 +9,8 @@ use Rattle.std.proofs.lemmas.List.Sums.{sum_by-append, sum_by-cons, sum_by_push}
 use Rattle.std.proofs.lemmas.List.Folds.{list_any-append}
 use Rattle.std.proofs.lemmas.List.Concat.{flat_map-append}
 use Rattle.dh_base.specs.Amounts.{greatest_amount}
-use Rattle.escrow_book.specs.Opening.{Row, same_id, has_row, total_of, asset_amount, is_good_row as is_good_behind, are_good_rows, is_good_opening, most_rows}
+use Rattle.escrow_book.specs.Opening.{Row, has_row, total_of, asset_amount, is_good_row as is_good_behind, are_good_rows, is_good_opening, most_rows}
+use Rattle.dh_base.specs.Ids.{same_id}
 use Rattle.plain_script.specs.BoundNames.{opened_of, opened_by, opens_on, opens_row, is_thing, is_ledger, is_good_row}
 use Rattle.plain_script.specs.Rules.{declaration_rule, DeclareByRules}
 use Rattle.plain_script.specs.declared.declaration.Declaration.{Declaration}

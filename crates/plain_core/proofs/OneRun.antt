@@ -3,6 +3,7 @@ use Rattle.std.specs.Option.{unwrap_or}
 use Rattle.std.proofs.Common.{◌≡◌, ℕ, ◌+◌, ◌<◌, ◌≤◌, List, [], ◌∷◌, map, length, refl, sym, ap, subst, ◌∙◌, inl, inr, arith}
 use Rattle.std.specs.Prelude.{Contains}
 use Rattle.escrow_book.specs.Reached.{IsReached}
+use Rattle.escrow_book.specs.Base.{greatest_turn}
 use Rattle.plain_script.specs.BoundNames.{members_of}
 use Rattle.plain_script.specs.Rules.{DeclareByRules}
 use Rattle.plain_script.specs.declared.declaration.Declaration.{Declaration}
@@ -67,7 +68,7 @@ started_sound ds keep (name ∷ names) ledger there =
 pub start_sound : (ds : List Declaration) → DeclareByRules [] ds → AreSound ds 0 (started_world ds).ledgers
 start_sound ds keep = started_sound ds keep (ledger_names ds)
 
-pub step_sound : GrowthLaws → (ds : List Declaration) → DeclareByRules [] ds → (world : World) (event : Event) (n : ℕ) → n < 4294967295 → AreSound ds n world.ledgers → AreSound ds (n + 1) (step_of ds world event).world.ledgers
+pub step_sound : GrowthLaws → (ds : List Declaration) → DeclareByRules [] ds → (world : World) (event : Event) (n : ℕ) → n < greatest_turn → AreSound ds n world.ledgers → AreSound ds (n + 1) (step_of ds world event).world.ledgers
 step_sound laws ds keep world event n room sound ledger there =
     let old = step_goes_on laws ds keep world event ledger there in
     let s = sound old.0 old.1 in

@@ -4,8 +4,8 @@ use Rattle.std.specs.Str.{bytes_eq}
 use Rattle.std.proofs.lemmas.Slice.Eq.{bytes_eq-Decides}
 use Rattle.std.proofs.lemmas.Bool.Decides.{same_from_decides}
 use Rattle.dh_base.specs.declared.id.Id.{Id}
-use Rattle.escrow_book.specs.Opening.{same_id}
-use Rattle.escrow_book.proofs.Same.{same_id-Decides}
+use Rattle.dh_base.specs.Ids.{same_id}
+use Rattle.dh_base.proofs.SameIds.{same_id-Decides}
 use Rattle.plain_core.specs.Ids.{plain_id}
 
 heads_same : (x y : ℕ) (xs ys : List ℕ) → x ∷ xs ≡ y ∷ ys → x ≡ y

@@ -9,6 +9,7 @@ use Rattle.escrow_book.specs.declared.change.Change.TheVariants as change
 use Rattle.escrow_book.specs.History.{History}
 use Rattle.escrow_book.specs.Reached.{IsReached}
 use Rattle.escrow_book.specs.Conserved.{AreItsAccounts, IsConserved, settlements_of}
+use Rattle.escrow_book.specs.Base.{greatest_turn}
 use Rattle.vote_log.specs.declared.decision.Decision.{Decision}
 use Rattle.vote_log.specs.Entry.{Entry}
 use Rattle.vote_log.specs.Log.{Log}
@@ -95,7 +96,7 @@ pub record IsGood (ds : List Declaration) (moment : Moment) : Type 0 where
 abbrev AreGood : List Declaration → List Moment → Type 0
 AreGood ds moments = (moment : Moment) → Contains moments moment → IsGood ds moment
 
-all_good : GrowthLaws → (ds : List Declaration) → DeclareByRules [] ds → (world : World) (n : ℕ) (events : List Numbered) → AreSound ds n world.ledgers → n + length events < 4294967295 → ((moment : Moment) → Contains (moments_from ds world events) moment → is_out_of_range moment.before moment.happened.event ≡ false) → AreGood ds (moments_from ds world events)
+all_good : GrowthLaws → (ds : List Declaration) → DeclareByRules [] ds → (world : World) (n : ℕ) (events : List Numbered) → AreSound ds n world.ledgers → n + length events < greatest_turn → ((moment : Moment) → Contains (moments_from ds world events) moment → is_out_of_range moment.before moment.happened.event ≡ false) → AreGood ds (moments_from ds world events)
 all_good laws ds keep world n [] sound room range moment there = absurd (contains_none moment there)
 all_good laws ds keep world n (happened ∷ rest) sound room range moment there =
     let next : World = (step_of ds world happened.event).world in
@@ -223,7 +224,7 @@ keeps_assets laws ds n ledgers sound ledger there =
     let s = sound ledger there in
     record { opening = s.opening; reached = s.reached; conserved = λ accounts asset its. laws.conserved ledger.history accounts asset s.reached its; once = λ d. laws.once ledger.history d s.reached }
 
-pub follows_one_log : RunLaws → (ds : List Declaration) → DeclareByRules [] ds → (events : List Numbered) → length events < 4294967295 → ((moment : Moment) → Contains (moments_from ds (started_world ds) events) moment → is_out_of_range moment.before moment.happened.event ≡ false) → FollowsOneLog ds (run_between (started_world ds) (moments_from ds (started_world ds) events))
+pub follows_one_log : RunLaws → (ds : List Declaration) → DeclareByRules [] ds → (events : List Numbered) → length events < greatest_turn → ((moment : Moment) → Contains (moments_from ds (started_world ds) events) moment → is_out_of_range moment.before moment.happened.event ≡ false) → FollowsOneLog ds (run_between (started_world ds) (moments_from ds (started_world ds) events))
 follows_one_log laws ds keep events room range = record {
   agree = λ one other d first second a b. one_outcome run.end.log.entries d first second (by_log one d first a) (by_log other d second b);
   by_log = by_log;

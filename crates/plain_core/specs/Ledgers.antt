@@ -9,7 +9,7 @@ use Rattle.dh_base.specs.declared.outcome.Outcome.TheVariants.{Commit as ToCommi
 use Rattle.escrow_book.specs.declared.change.Change.TheVariants as change
 use Rattle.escrow_book.specs.declared.fault.BookFault.{BookFault}
 use Rattle.escrow_book.specs.declared.fault.BookFault.TheVariants as book
-use Rattle.escrow_book.specs.Opening.{same_id}
+use Rattle.dh_base.specs.Ids.{same_id}
 use Rattle.escrow_book.specs.History.{History, with_change, is_known, settlement_of}
 use Rattle.escrow_book.specs.Reached.{registered}
 use Rattle.escrow_book.specs.Refused.{escrow_refusal, transfer_refusal}
@@ -117,7 +117,8 @@ claim_decided ledger deal len None = refuses ledger (RefusedClaim (claim.Undecid
 claim_decided ledger deal len (Some decision) =
     record {
       reply = Settled decision.outcome;
-      ledger = with_entry ledger (with_change ledger.history (change.Settled deal decision.outcome));
+      ledger =
+          with_entry ledger (with_change ledger.history (change.Settled deal decision.outcome));
     }
 
 abbrev pub claim_found : LedgerTold → Id → ℕ → Option Outcome → Option Decision → Answer

@@ -2,6 +2,7 @@
 
 ghost use Rattle.std.specs.Prelude.{◌≡◌, ◌≤◌, ◌<◌, length, position, IfSome};
 ghost use Rattle.std.specs.Str.{bytes_eq};
+ghost use Rattle.dh_base.specs.Limits.{most_parties};
 ghost use Rattle.plain_core.specs.Given.{GivesLog};
 ghost use Rattle.plain_core.specs.Ledgers.{add_answer, start_answer, vote_answer};
 
@@ -31,7 +32,7 @@ pub fn start_deal(
     party: &Name,
 ) -> Result<Reply, NoMemory>
     requires several { 0 < length members.now → 2 ≤ length members.now }
-    requires few { length members.now ≤ 16 }
+    requires few { length members.now ≤ most_parties }
     ensures { GivesLog result log.new (start_answer members.now deal.now party.now log.old) }
 {
     if !is_member(members, party) {
@@ -56,7 +57,7 @@ pub fn vote(
     deal: &Name,
     party: &Name,
 ) -> Result<Reply, NoMemory>
-    requires { length members.now ≤ 16 }
+    requires { length members.now ≤ most_parties }
     ensures { GivesLog result log.new (vote_answer members.now choice deal.now party.now log.old) }
 {
     let id = plain_id(deal);

@@ -1,5 +1,5 @@
 -- What is read keeps the rules of declarations, and has few events.
-use Rattle.std.proofs.Common.{◌≡◌, ℕ, ◌+◌, ◌<◌, ◌||◌, None, List, [], ◌∷◌, ◌++◌, length, Ok, sym, subst, inl, inr, arith, append_assoc}
+use Rattle.std.proofs.Common.{◌≡◌, ℕ, ◌+◌, ◌-◌, ◌^◌, ◌<◌, ◌||◌, None, List, [], ◌∷◌, ◌++◌, length, Ok, sym, subst, inl, inr, arith, append_assoc}
 use Rattle.std.specs.List.{list_any}
 use Rattle.std.proofs.lemmas.List.{append-nil}
 use Rattle.line_text.specs.Lines.{Line, lines_of}
@@ -53,7 +53,7 @@ declared_good script told e =
     let read = read_lines script told e in
     subst (λ (t : ScriptTold). DeclareByRules [] t.declarations) read.1 (rules_from [] (lines_of script) tt read.0)
 
-pub few_happen : (script : List ℕ) (told : ScriptTold) → reading_of script ≡ Ok told → length told.events < 4294967295
+pub few_happen : (script : List ℕ) (told : ScriptTold) → reading_of script ≡ Ok told → length told.events < 2 ^ 32 - 1
 few_happen script told e =
     let small = (within script told e).0 in
-    subst (λ (t : ScriptTold). length t.events < 4294967295) (read_lines script told e).1 (omega (arith, small, lines_few script, events_few 0 (lines_of script)))
+    subst (λ (t : ScriptTold). length t.events < 2 ^ 32 - 1) (read_lines script told e).1 (omega (arith, small, lines_few script, events_few 0 (lines_of script)))

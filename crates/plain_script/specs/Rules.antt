@@ -59,7 +59,8 @@ declaration_rule ds d = rule_with_parties ds d (length (parties_of (ds ++ d ∷ 
 -- each of the declarations breaks no rule behind those before it
 abbrev pub DeclareByRules : List Declaration → List Declaration → Type 0
 DeclareByRules before [] = Unit {0}
-DeclareByRules before (d ∷ ds) = (declaration_rule before d ≡ None) × DeclareByRules (before ++ d ∷ []) ds
+DeclareByRules before (d ∷ ds) =
+    (declaration_rule before d ≡ None) × DeclareByRules (before ++ d ∷ []) ds
 
 -- the declarations with one that breaks no rule
 abbrev pub taken_unless : Option ScriptRule → List Declaration → Declaration → List Declaration

@@ -29,7 +29,7 @@ fn whole(reader: Reader) -> Result<Script, PlainHalt>
     requires small { reader.number < 2 ^ 32 - 1 }
     requires few { length reader.events ≤ reader.number }
     ensures value { Answers result (whole_of reader) }
-    ensures few { IfOk result (λ script. length script.events < 4294967295) }
+    ensures few { IfOk result (λ script. length script.events < 2 ^ 32 - 1) }
 {
     match reader.place() {
         Place::Declarations => Err(PlainHalt::Refused {
@@ -50,7 +50,7 @@ fn whole(reader: Reader) -> Result<Script, PlainHalt>
 /// happens.
 pub fn read_script(alloc: Global, script: &[u8]) -> Result<Script, PlainHalt>
     ensures value { Answers result (reading_of script.now) }
-    ensures few { IfOk result (λ told. length told.events < 4294967295) }
+    ensures few { IfOk result (λ told. length told.events < 2 ^ 32 - 1) }
 {
     if script.len() > MOST_BYTES {
         return Err(PlainHalt::Refused {

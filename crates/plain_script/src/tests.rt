@@ -173,7 +173,8 @@ fn with_ledgers(alloc: Global, lines: &str, ledgers: u32) -> Result<String, Fail
     Ok(script)
 }
 
-/// A script that goes on with so many deals of two parties, which are other ones in each deal where they are to differ.
+/// A script that goes on with so many deals of two parties, which are other ones in each deal where
+/// they are to differ.
 fn with_deals(alloc: Global, deals: u32, differ: bool) -> Result<String, Fail> {
     let mut script = format!(in alloc; "plain\n")?;
     for i in 0..deals {
@@ -193,7 +194,8 @@ fn with_parties(alloc: Global, parties: u32) -> Result<String, Fail> {
     Ok(script)
 }
 
-/// A script of opening rows: a party of each of these numbers has one of an asset of its own on each ledger.
+/// A script of opening rows: a party of each of these numbers has one of an asset of its own on
+/// each ledger.
 fn with_rows(alloc: Global, ledgers: u32, assets: u32) -> Result<String, Fail> {
     let mut script = with_ledgers(alloc, "plain\n", ledgers)?;
     for asset in 0..assets {

@@ -1,6 +1,7 @@
 -- A record of a log, as contracts see it.
 use Rattle.std.specs.Prelude.{ℕ, ◌≤◌, ◌<◌}
 use Rattle.dh_base.specs.declared.id.Id.{Id}
+use Rattle.dh_base.specs.Limits.{most_parties}
 use Rattle.vote_log.specs.declared.kind.Kind.{Kind}
 use Rattle.vote_log.specs.declared.kind.Kind.TheVariants.{Start, Commit, Abort}
 
@@ -12,6 +13,6 @@ pub record Entry : Type 0 where
 
 -- 2 to 16 parties, or an index below 16
 abbrev pub IsInRange : Kind → ℕ → Type 0
-IsInRange Start parties = (2 ≤ parties) × (parties ≤ 16)
-IsInRange Commit index = index < 16
-IsInRange Abort index = index < 16
+IsInRange Start parties = (2 ≤ parties) × (parties ≤ most_parties)
+IsInRange Commit index = index < most_parties
+IsInRange Abort index = index < most_parties

@@ -3,6 +3,7 @@ use Rattle.std.specs.Prelude.{ℕ, ◌≡◌, ◌≤◌, ◌<◌, Bool, if◌the
 use Rattle.dh_base.specs.declared.id.Id.{Id}
 use Rattle.dh_base.specs.declared.outcome.Outcome.{Outcome}
 use Rattle.dh_base.specs.declared.outcome.Outcome.TheVariants.{Commit as ToCommit, Abort as ToAbort}
+use Rattle.dh_base.specs.Limits.{most_parties}
 use Rattle.vote_log.specs.declared.decision.Decision.{Decision}
 use Rattle.vote_log.specs.declared.kind.Kind.{Kind}
 use Rattle.vote_log.specs.declared.kind.Kind.TheVariants.{Start, Commit, Abort}
@@ -20,9 +21,9 @@ pub record IsTally (log : List Entry) (deal : Id) (tally : Tally) : Type 0 where
   pub started : first_start log deal ≡ Some start
   pub at : tally.at ≡ start.at
   pub parties : tally.parties ≡ start.parties
-  pub few : tally.parties ≤ 16
-  pub indices : length tally.committed ≡ 16
-  pub committed : (index : ℕ) → index < 16
+  pub few : tally.parties ≤ most_parties
+  pub indices : length tally.committed ≡ most_parties
+  pub committed : (index : ℕ) → index < most_parties
       → slice_index_or tally.committed index None ≡ commit_place deal start index
   pub decision : tally.decision ≡ outcome_of log deal
 
@@ -32,7 +33,7 @@ StandsFor log deal (Some tally) = IsTally log deal tally
 
 abbrev pub IsSmall : Option Tally → Type 0
 IsSmall None = Unit {0}
-IsSmall (Some tally) = tally.parties ≤ 16
+IsSmall (Some tally) = tally.parties ≤ most_parties
 
 abbrev pub all_placed : List (Option ℕ) → ℕ → Bool
 all_placed committed parties =
@@ -54,7 +55,7 @@ decided_first None decides outcome at =
 
 abbrev pub opened_tally : ℕ → ℕ → Tally
 opened_tally at parties =
-    record { at = at; parties = parties; committed = replicate 16 None; decision = None }
+    record { at = at; parties = parties; committed = replicate most_parties None; decision = None }
 
 abbrev pub committed_tally : Tally → ℕ → ℕ → Tally
 committed_tally tally index place =
@@ -68,7 +69,8 @@ abbrev pub aborted_tally : Tally → ℕ → ℕ → Tally
 aborted_tally tally index place =
     record tally {
       decision = decided_first tally.decision
-          (nat_lt index tally.parties && not (all_placed tally.committed tally.parties)) ToAbort place;
+          (nat_lt index tally.parties && not (all_placed tally.committed tally.parties))
+          ToAbort place;
     }
 
 -- the tally after a record of its deal

@@ -1,6 +1,7 @@
 //! Which records a log takes.
 
 ghost use Rattle.std.specs.Prelude.{◌≡◌, ◌≤◌, ◌<◌, ◌+◌, ◌^◌, ◌++◌, ◌∷◌, [], None, Some, Ok, Err, length, OnOk, IfOk, IfErr};
+ghost use Rattle.dh_base.specs.Limits.{most_parties};
 ghost use Rattle.vote_log.specs.Entry.{IsInRange};
 ghost use Rattle.vote_log.specs.Admission.{add_refusal, votable_of, vote_refusal};
 ghost use Rattle.vote_log.specs.Log.{IsKept};
@@ -50,7 +51,7 @@ fn start_refusal(
 
 /// Where the index has committed.
 fn commit_place(tally: &Option<Tally>, index: u16) -> Option<u32>
-    requires { index < 16 }
+    requires { index < most_parties }
     ensures { result ≡ place_in tally.now index }
 {
     match tally {

@@ -1,6 +1,7 @@
 //! The records of a log.
 
 ghost use Rattle.std.specs.Prelude.{◌≡◌, ◌≤◌, ◌<◌};
+ghost use Rattle.dh_base.specs.Limits.{most_parties};
 ghost use Rattle.vote_log.specs.Voting.{vote_kind};
 
 use crate::kind::Kind;
@@ -32,7 +33,7 @@ impl LogRecord {
     /// The start of a deal of that many parties.
     pub fn start(parties: u16, deal: Id) -> LogRecord
         requires several { 2 ≤ parties }
-        requires few { parties ≤ 16 }
+        requires few { parties ≤ most_parties }
         ensures { result ≡ record { kind = Kind.Start; num = parties; deal = deal } }
     {
         LogRecord {
@@ -44,7 +45,7 @@ impl LogRecord {
 
     /// The vote of the party with that index.
     pub fn vote(choice: Outcome, index: u16, deal: Id) -> LogRecord
-        requires { index < 16 }
+        requires { index < most_parties }
         ensures { result ≡ record { kind = vote_kind choice; num = index; deal = deal } }
     {
         let kind = match choice {

@@ -1,16 +1,14 @@
 //! The count of one deal's votes.
 
 ghost use Rattle.std.specs.Prelude.{◌≡◌, ◌≤◌, ◌<◌, ◌^◌, ◌+◌, ◌-◌, length};
+ghost use Rattle.dh_base.specs.Limits.{most_parties};
 ghost use Rattle.vote_log.specs.Entry.{IsInRange};
 ghost use Rattle.vote_log.specs.Tallies.{StandsFor, IsSmall, all_placed, unplaced, placed_with, tally_after, tally_with, committed_tally, aborted_tally, opened_tally, decided_first, owed_in};
 
 use crate::decision::Decision;
 use crate::kind::Kind;
 use crate::log_record::LogRecord;
-use dh_base::{Id, Outcome};
-
-/// The most parties of a deal.
-const MOST_PARTIES: usize = 16;
+use dh_base::{Id, MOST_PARTIES, Outcome};
 
 /// A started deal: where its first start stands and how many parties it names, where each index
 /// committed first, and what is decided.
@@ -24,7 +22,7 @@ pub struct Tally {
 
 /// Whether each index below the number of parties has a place.
 fn all_have_places(committed: &[Option<u32>; MOST_PARTIES], parties: u16) -> bool
-    requires { parties ≤ 16 }
+    requires { parties ≤ most_parties }
     ensures { result ≡ all_placed committed.now parties }
 {
     for index in 0..parties as usize {
@@ -37,7 +35,7 @@ fn all_have_places(committed: &[Option<u32>; MOST_PARTIES], parties: u16) -> boo
 
 /// How many indices below the number of parties have no place.
 fn without_place(committed: &[Option<u32>; MOST_PARTIES], parties: u16) -> u32
-    requires { parties ≤ 16 }
+    requires { parties ≤ most_parties }
     ensures value { result ≡ unplaced committed.now parties }
     ensures few { result ≤ parties }
 {
@@ -56,7 +54,7 @@ fn with_place(
     index: u16,
     place: u32,
 ) -> [Option<u32>; MOST_PARTIES]
-    requires { index < 16 }
+    requires { index < most_parties }
     ensures { result ≡ placed_with committed index place }
 {
     if committed[index as usize].is_none() {
@@ -95,8 +93,8 @@ impl Tally {
 
     /// The tally after a commit by that index.
     fn after_commit(self, index: u16, place: u32) -> Tally
-        requires few { self.parties ≤ 16 }
-        requires party { index < 16 }
+        requires few { self.parties ≤ most_parties }
+        requires party { index < most_parties }
         ensures { result ≡ committed_tally self index place }
     {
         let committed = with_place(self.committed, index, place);
@@ -111,7 +109,7 @@ impl Tally {
 
     /// The tally after an abort by that index.
     fn after_abort(self, index: u16, place: u32) -> Tally
-        requires { self.parties ≤ 16 }
+        requires { self.parties ≤ most_parties }
         ensures { result ≡ aborted_tally self index place }
     {
         let breaks_off = index < self.parties && !all_have_places(&self.committed, self.parties);
@@ -167,7 +165,7 @@ pub fn tally_of(recs: &[LogRecord], deal: &Id) -> Option<Tally>
 fn owed_by(tally: &Option<Tally>) -> u32
     requires { IsSmall tally.now }
     ensures value { result ≡ owed_in tally.now }
-    ensures few { result ≤ 16 }
+    ensures few { result ≤ most_parties }
 {
     match tally {
         Some(tally) if tally.decision.is_none() => without_place(&tally.committed, tally.parties),

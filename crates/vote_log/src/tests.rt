@@ -1,6 +1,7 @@
 //! Logs worked out by hand.
 
 ghost use Rattle.std.specs.Prelude.{◌≤◌, ◌<◌};
+ghost use Rattle.dh_base.specs.Limits.{most_parties};
 
 use super::*;
 use dh_base::{Id, Outcome};
@@ -10,19 +11,19 @@ const DEAL: Id = Id([7; 32]);
 
 fn start(parties: u16) -> LogRecord
     requires several { 2 ≤ parties }
-    requires few { parties ≤ 16 }
+    requires few { parties ≤ most_parties }
 {
     LogRecord::start(parties, DEAL)
 }
 
 fn commit(index: u16) -> LogRecord
-    requires { index < 16 }
+    requires { index < most_parties }
 {
     LogRecord::vote(Outcome::Commit, index, DEAL)
 }
 
 fn abort(index: u16) -> LogRecord
-    requires { index < 16 }
+    requires { index < most_parties }
 {
     LogRecord::vote(Outcome::Abort, index, DEAL)
 }

@@ -5,8 +5,8 @@ use crate::run::run;
 use std::alloc::Global;
 use std::process::Abort;
 
-/// Checks that a run of the word over the script has the status and writes the text, or ends with status 7
-/// and writes nothing. The sink may fail for want of memory too.
+/// Checks that a run of the word over the script has the status and writes the text, or ends with
+/// status 7 and writes nothing. The sink may fail for want of memory too.
 fn check_ending(rt: &impl Abort, alloc: Global, word: &str, script: &str, status: u8, text: &str) {
     let Ok(words) = words(alloc, word) else {
         return;

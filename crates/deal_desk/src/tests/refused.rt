@@ -5,7 +5,8 @@ use std::alloc::Global;
 use std::process::Abort;
 use std::test::Fail;
 
-/// Checks that the script of each row, behind these lines, is refused with the row's line and status 2.
+/// Checks that the script of each row, behind these lines, is refused with the row's line and
+/// status 2.
 fn check_table(rt: &impl Abort, alloc: Global, before: &str, table: &str) -> Result<(), Fail> {
     check_refused(rt, alloc, "rehearse", before, table)
 }

@@ -1,4 +1,5 @@
-//! The adapters over readers and writers, where a call fails and where one takes less than it is given.
+//! The adapters over readers and writers, where a call fails and where one takes less than it is
+//! given.
 
 use crate::{Failed, ReaderSource, Sink, Source, WriterSink};
 use std::io;
@@ -27,7 +28,8 @@ impl io::Read for ByteReader<'_> {
     }
 }
 
-/// A writer that takes at most two bytes at a call, fails the second call and takes nothing at the third.
+/// A writer that takes at most two bytes at a call, fails the second call and takes nothing at the
+/// third.
 #[derive(Drop)]
 struct ShortWriter {
     calls: u32,

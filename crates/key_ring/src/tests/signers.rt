@@ -100,7 +100,8 @@ fn sign_to_stop(
     Ok(first)
 }
 
-/// The third text meets the stop. That many texts are signed once the keeper and the signer are started again.
+/// The third text meets the stop. That many texts are signed once the keeper and the signer are
+/// started again.
 fn check_stop(rt: &impl Abort, alloc: Global, stop: Arm, used: u16) -> Result<(), Fail> {
     let spec = three_keys();
     let mut keeper = MemKeeper::new(alloc);
@@ -156,7 +157,8 @@ fn a_text_that_is_not_kept_has_no_key(rt: HostRuntime) -> Result<(), Fail> {
     Ok(())
 }
 
-/// The refusal of a signer of three keys over a keeper with these keys in the table of signed texts.
+/// The refusal of a signer of three keys over a keeper with these keys in the table of signed
+/// texts.
 fn load_fault(alloc: Global, keys: &[&[u8]]) -> Result<Option<StoreFault>, Fail> {
     let mut batch = Batch::new(alloc);
     for key in keys {
@@ -208,7 +210,8 @@ fn refusals_of_signers_are_told(rt: HostRuntime) -> Result<(), Fail> {
     Ok(())
 }
 
-/// Loads a signer over any keeper and signs a text. A keeper to which nothing is to come does not fail it.
+/// Loads a signer over any keeper and signs a text. A keeper to which nothing is to come does not
+/// fail it.
 fn sign_once<K: Keeper>(
     alloc: Global,
     spec: &KeySpec,

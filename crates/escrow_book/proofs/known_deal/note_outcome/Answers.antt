@@ -1,6 +1,6 @@
 use Rattle.std.proofs.Common.{Some, arith}
 use Rattle.escrow_book.specs.declared.known_deal.KnownDeal.{KnownDeal}
-use Rattle.escrow_book.specs.Opening.{same_id}
+use Rattle.dh_base.specs.Ids.{same_id}
 use Rattle.escrow_book.proofs.Keeping.{changed_here, left_here}
 use Rattle.escrow_book.proofs.known_deal.note_outcome.Goals as goal
 use Rattle.escrow_book.proofs.known_deal.note_outcome.Goals.{then-eq, else-eq}

@@ -1,4 +1,5 @@
-use Rattle.std.proofs.Common.{◌+◌, drop, length, string_bytes, ap, arith}
+use Rattle.std.proofs.Common.{◌+◌, ◌-◌, drop, length, string_bytes, ap, arith}
+use Rattle.escrow_book.specs.Base.{greatest_turn}
 use Rattle.plain_core.specs.Starts.{started_world}
 use Rattle.plain_core.specs.Reports.{run_from}
 use Rattle.plain_core.proofs.Within.{within_more}
@@ -9,7 +10,7 @@ pub loop-happened-init : goal.loop-happened-init
 loop-happened-init c = run_starts c.args.script.now.declarations (string_bytes c.args.out.now) c.in_ok-world.world c.args.script.now.events c.requires.empty c.in_ok-world.ensures
 
 pub happen-requires : goal.happen-requires
-happen-requires c = within_more c.loop-happened.happened-index 4294967294 c.loop-happened.world.ledgers (omega (arith, c.requires.few, ap length c.as_slice-happened-items.ensures)) c.loop-happened.invariant.1
+happen-requires c = within_more c.loop-happened.happened-index (greatest_turn - 1) c.loop-happened.world.ledgers (omega (arith, c.requires.few, ap length c.as_slice-happened-items.ensures)) c.loop-happened.invariant.1
 
 pub loop-happened-preserved : goal.loop-happened-preserved
 loop-happened-preserved c = (
