@@ -12,21 +12,20 @@ const SET_ID: [u8; 32] = [
     0x3d, 0x38, 0x67, 0x40, 0x52, 0xac, 0xb6, 0xd0, 0x07, 0x58, 0x74, 0xfe, 0x3a, 0x73, 0x3c, 0x01,
 ];
 
-/// The text of the set of epoch 7 that lets one of four seats deviate, whose accounts are of ones,
-/// twos, threes and fours.
-fn four_seats(alloc: Global) -> Result<Vec<u8>, Fail> {
+/// The text of the set of epoch 7 that lets one of four seats deviate, each of whose accounts
+/// repeats a byte.
+fn four_seats(alloc: Global, accounts: [u8; 4]) -> Result<Vec<u8>, Fail> {
     let mut text = Vec::from_slice(alloc, b"CCDSET01\x00\x00\x00\x07\x00\x01")?;
-    text.extend_from_slice(&[1; 32])?;
-    text.extend_from_slice(&[2; 32])?;
-    text.extend_from_slice(&[3; 32])?;
-    text.extend_from_slice(&[4; 32])?;
+    for account in accounts {
+        text.extend_from_slice(&[account; 32])?;
+    }
     Ok(text)
 }
 
 #[test]
 fn a_set_goes_through_its_text(rt: HostRuntime) -> Result<(), Fail> {
     let alloc = rt.alloc();
-    let text = four_seats(alloc)?;
+    let text = four_seats(alloc, [1, 2, 3, 4])?;
     assert!(rt; text.len() < 1000);
     let set = read_set(&text)?;
     assert_eq!(rt; set.epoch, 7);
@@ -46,7 +45,7 @@ fn fault_at(
     byte: u8,
     len: usize,
 ) -> Result<Option<SetFault>, Fail> {
-    let mut text = four_seats(alloc)?;
+    let mut text = four_seats(alloc, [1, 2, 3, 4])?;
     if place < text.len() {
         text[place] = byte;
     }
@@ -78,6 +77,28 @@ fn the_first_thing_wrong_is_named(rt: HostRuntime) -> Result<(), Fail> {
     assert_eq!(rt;
         fault_at(&rt, alloc, 0, b'C', 141)?,
         Some(SetFault::BadLength { len: 141 })
+    );
+    Ok(())
+}
+
+/// The fault of the text of four seats with these accounts.
+fn fault_of(rt: &impl Abort, alloc: Global, accounts: [u8; 4]) -> Result<Option<SetFault>, Fail> {
+    let text = four_seats(alloc, accounts)?;
+    assert!(rt; text.len() < 1000);
+    Ok(read_set(&text).err())
+}
+
+#[test]
+fn the_least_seat_is_named_whose_account_stands_before_it(rt: HostRuntime) -> Result<(), Fail> {
+    let alloc = rt.alloc();
+    assert_eq!(rt; fault_of(&rt, alloc, [1, 2, 3, 4])?, None);
+    assert_eq!(rt;
+        fault_of(&rt, alloc, [1, 2, 1, 2])?,
+        Some(SetFault::SeatTwice { seat: 2 })
+    );
+    assert_eq!(rt;
+        fault_of(&rt, alloc, [5, 6, 7, 6])?,
+        Some(SetFault::SeatTwice { seat: 3 })
     );
     Ok(())
 }

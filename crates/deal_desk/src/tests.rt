@@ -14,11 +14,11 @@ use std::test::Fail;
 const USAGE: &str =
     "usage: deal_desk clear | rehearse | fair N SEED | ledger | seat | board | agent | live\n";
 
-const BROKER: &str = "plain\nledger coins\nopen coins coin ann 5\ndeal d ann ben\nbegin\n\
+const PAYMENT: &str = "plain\nledger coins\nopen coins coin ann 5\ndeal d ann ben\nbegin\n\
 register coins d ann\nescrow coins d ann coin 5\ntransfer coins d ann 0 ben coin 5\n\
 start d ann\ncommit d ann\ncommit d ben\nclaim coins d 2\nclaim coins d 3\nabort d ben\n";
 
-const BROKER_REPORT: &str = "6 done 1\n7 done 2\n8 done 3\n9 entered 0\n10 entered 1\n\
+const PAYMENT_REPORT: &str = "6 done 1\n7 done 2\n8 done 3\n9 entered 0\n10 entered 1\n\
 11 entered 2\n12 refused 3 Undecided 2\n13 settled commit\n14 refused 9 Decided 2 commit\n\
 ledger coins\nfree coin ben 5\ndeal d commit\npaid d coin ben 5\n";
 

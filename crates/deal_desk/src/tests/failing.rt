@@ -1,6 +1,6 @@
 //! Each read and each write fails in turn.
 
-use super::{BROKER, BROKER_CLEARING, BROKER_DEAL, BROKER_REPORT, USAGE, sink, source, words};
+use super::{BROKER_CLEARING, BROKER_DEAL, PAYMENT, PAYMENT_REPORT, USAGE, sink, source, words};
 use crate::run::run;
 use dh_base::{Failed, MemSink, Outside, Sink};
 use std::alloc::Global;
@@ -61,10 +61,10 @@ fn check_reads(
 fn a_failing_read_has_status_3(rt: HostRuntime) -> Result<(), Fail> {
     let alloc = rt.alloc();
     let comment = vec![in alloc; b'#'; 10000]?;
-    let mut script = BROKER.as_bytes().to_vec(alloc)?;
+    let mut script = PAYMENT.as_bytes().to_vec(alloc)?;
     script.extend_from_slice(comment.as_slice())?;
     script.push(b'\n')?;
-    check_reads(&rt, alloc, "rehearse", script.as_slice(), 4, BROKER_REPORT)?;
+    check_reads(&rt, alloc, "rehearse", script.as_slice(), 4, PAYMENT_REPORT)?;
     let deal = BROKER_DEAL.as_bytes();
     check_reads(&rt, alloc, "clear", deal, 2, BROKER_CLEARING)
 }
@@ -110,7 +110,7 @@ fn check_writes(
 #[test]
 fn a_failing_write_has_status_4(rt: HostRuntime) -> Result<(), Fail> {
     let alloc = rt.alloc();
-    check_writes(&rt, alloc, "rehearse", BROKER, 0, BROKER_REPORT)?;
+    check_writes(&rt, alloc, "rehearse", PAYMENT, 0, PAYMENT_REPORT)?;
     check_writes(
         &rt,
         alloc,
@@ -122,5 +122,5 @@ fn a_failing_write_has_status_4(rt: HostRuntime) -> Result<(), Fail> {
     check_writes(&rt, alloc, "clear", BROKER_DEAL, 0, BROKER_CLEARING)?;
     let fault = "refused 1 BadLine 2\n";
     check_writes(&rt, alloc, "clear", "deal broker\n", 2, fault)?;
-    check_writes(&rt, alloc, "help", BROKER, 1, USAGE)
+    check_writes(&rt, alloc, "help", PAYMENT, 1, USAGE)
 }

@@ -1,6 +1,6 @@
 //! Runs in which an allocation may be refused, as where the tests are tried with one that fails.
 
-use super::{BROKER, BROKER_CLEARING, BROKER_DEAL, BROKER_REPORT, USAGE, sink, source, words};
+use super::{BROKER_CLEARING, BROKER_DEAL, PAYMENT, PAYMENT_REPORT, USAGE, sink, source, words};
 use crate::run::run;
 use std::alloc::Global;
 use std::process::Abort;
@@ -29,7 +29,7 @@ fn check_ending(rt: &impl Abort, alloc: Global, word: &str, script: &str, status
 
 #[test]
 fn a_report_is_whole_or_memory_ran_out(rt: HostRuntime) {
-    check_ending(&rt, rt.alloc(), "rehearse", BROKER, 0, BROKER_REPORT);
+    check_ending(&rt, rt.alloc(), "rehearse", PAYMENT, 0, PAYMENT_REPORT);
 }
 
 #[test]
@@ -48,7 +48,7 @@ fn a_refused_line_is_whole_or_memory_ran_out(rt: HostRuntime) {
 
 #[test]
 fn a_usage_line_is_whole_or_memory_ran_out(rt: HostRuntime) {
-    check_ending(&rt, rt.alloc(), "", BROKER, 1, USAGE);
+    check_ending(&rt, rt.alloc(), "", PAYMENT, 1, USAGE);
 }
 
 #[test]

@@ -1,6 +1,6 @@
 //! What is written for scripts that break no rule, and for other words.
 
-use super::{BROKER, BROKER_REPORT, USAGE, check, sink, source, words};
+use super::{PAYMENT, PAYMENT_REPORT, USAGE, check, sink, source, words};
 use crate::run::run;
 use std::test::Fail;
 
@@ -58,7 +58,7 @@ const QUIET: [(&str, &str); 7] = [
 #[test]
 fn a_script_has_its_report(rt: HostRuntime) -> Result<(), Fail> {
     let told = [
-        (BROKER, BROKER_REPORT),
+        (PAYMENT, PAYMENT_REPORT),
         (PLAIN_BROKER, PLAIN_BROKER_REPORT),
         (PLAIN_BROKER_UNPAID, PLAIN_BROKER_UNPAID_REPORT),
     ];
@@ -80,7 +80,7 @@ fn other_words_have_the_usage_line(rt: HostRuntime) -> Result<(), Fail> {
         "Clear",
         " clear",
     ] {
-        check(&rt, rt.alloc(), word, BROKER.as_bytes(), 1, USAGE)?;
+        check(&rt, rt.alloc(), word, PAYMENT.as_bytes(), 1, USAGE)?;
     }
     Ok(())
 }
@@ -91,7 +91,7 @@ fn a_command_has_no_further_word(rt: HostRuntime) -> Result<(), Fail> {
     for word in ["clear", "rehearse"] {
         let mut words = words(alloc, word)?;
         words.push(String::from_str(alloc, word)?)?;
-        let mut input = source(alloc, BROKER.as_bytes(), &[])?;
+        let mut input = source(alloc, PAYMENT.as_bytes(), &[])?;
         let mut output = sink(alloc, &[])?;
         assert_eq!(rt; run(alloc, &words, &mut input, &mut output), 1);
         assert_eq!(rt; output.written(), USAGE.as_bytes());
@@ -103,7 +103,7 @@ fn a_command_has_no_further_word(rt: HostRuntime) -> Result<(), Fail> {
 fn no_word_has_the_usage_line(rt: HostRuntime) -> Result<(), Fail> {
     let alloc = rt.alloc();
     let words = Vec::new(alloc);
-    let mut input = source(alloc, BROKER.as_bytes(), &[])?;
+    let mut input = source(alloc, PAYMENT.as_bytes(), &[])?;
     let mut output = sink(alloc, &[])?;
     assert_eq!(rt; run(alloc, &words, &mut input, &mut output), 1);
     assert_eq!(rt; output.written(), USAGE.as_bytes());
