@@ -15,7 +15,7 @@ use Rattle.escrow_book.specs.Refused.{IsRefusal, escrow_refusal, transfer_refusa
 use Rattle.vote_log.specs.declared.decision.Decision.{Decision}
 use Rattle.vote_log.specs.Entry.{Entry}
 use Rattle.vote_log.specs.Deciding.{outcome_of}
-use Rattle.plain_core.specs.Ids.{plain_id}
+use Rattle.plain_script.specs.Ids.{plain_id}
 use Rattle.plain_core.specs.declared.reply.Reply.{Reply}
 use Rattle.plain_core.specs.declared.reply.Reply.TheVariants.{RefusedAct, Done, Settled, Already}
 use Rattle.plain_core.specs.Given.{Gives}

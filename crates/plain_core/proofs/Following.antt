@@ -16,7 +16,7 @@ use Rattle.escrow_book.specs.Refused.{escrow_refusal, transfer_refusal, settle_r
 use Rattle.plain_script.specs.BoundNames.{members_of}
 use Rattle.plain_script.specs.Rules.{DeclareByRules}
 use Rattle.plain_script.specs.declared.declaration.Declaration.{Declaration}
-use Rattle.plain_core.specs.Ids.{plain_id}
+use Rattle.plain_script.specs.Ids.{plain_id}
 use Rattle.plain_core.specs.Ledgers.{LedgerTold, Answer, is_member, with_entry, accepts, refuses, act_refusal, act_answer, register_answer, escrow_answer, transfer_answer}
 use Rattle.plain_core.specs.declared.reply.Reply.{Reply}
 use Rattle.plain_core.specs.declared.reply.Reply.TheVariants.{Done, Entered, Settled as IsSettled, Already, RefusedAct, RefusedEntry, RefusedClaim}

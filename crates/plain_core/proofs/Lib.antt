@@ -12,7 +12,6 @@ pub mod Settled
 pub mod Settling
 pub mod Standing
 pub mod Told
-pub mod PlainIds
 pub mod Promised
 pub mod RowTexts
 pub mod Runs

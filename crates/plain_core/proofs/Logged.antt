@@ -14,7 +14,7 @@ use Rattle.plain_script.specs.BoundNames.{members_of}
 use Rattle.plain_script.specs.declared.declaration.Declaration.{Declaration}
 use Rattle.plain_script.specs.declared.event.Event.{Event}
 use Rattle.plain_script.specs.declared.event.Event.TheVariants.{Register, Escrow, Transfer, Start, Commit, Abort, Claim}
-use Rattle.plain_core.specs.Ids.{plain_id}
+use Rattle.plain_script.specs.Ids.{plain_id}
 use Rattle.plain_core.specs.Ledgers.{World, LogAnswer, step_of, is_member, add_answer, entry_answer, log_refuses, vote_found, vote_by, start_answer, vote_answer}
 use Rattle.plain_core.specs.declared.reply.Reply.{Reply}
 use Rattle.plain_core.specs.declared.reply.Reply.TheVariants.{RefusedEntry}

@@ -9,7 +9,8 @@ use Rattle.plain_script.specs.Rules.{DeclareByRules}
 use Rattle.plain_script.specs.declared.declaration.Declaration.{Declaration}
 use Rattle.plain_script.specs.declared.event.Event.{Event}
 use Rattle.plain_script.specs.declared.event.Event.TheVariants.{Register, Escrow, Transfer, Start, Commit, Abort, Claim}
-use Rattle.plain_core.specs.Openings.{rows_of, ledger_names}
+use Rattle.plain_script.specs.OpeningRows.{rows_of}
+use Rattle.plain_core.specs.Openings.{ledger_names}
 use Rattle.plain_core.specs.Starts.{started_ledger, started_world}
 use Rattle.plain_core.specs.Ledgers.{LedgerTold, World, Answer, at_ledger, register_answer, escrow_answer, transfer_answer, step_of}
 use Rattle.plain_core.specs.declared.reply.Reply.{Reply}

@@ -19,7 +19,7 @@ use Rattle.plain_script.specs.Rules.{DeclareByRules}
 use Rattle.plain_script.specs.declared.declaration.Declaration.{Declaration}
 use Rattle.plain_script.specs.declared.numbered.Numbered.{Numbered}
 use Rattle.plain_script.specs.declared.rule.ScriptRule.TheVariants.{OutOfRange}
-use Rattle.plain_core.specs.Ids.{plain_id}
+use Rattle.plain_script.specs.Ids.{plain_id}
 use Rattle.plain_core.specs.Starts.{started_world}
 use Rattle.plain_core.specs.Ledgers.{LedgerTold, World, step_of}
 use Rattle.plain_core.specs.Reports.{Report, is_out_of_range, reply_line, told_behind, goes_on, run_from}

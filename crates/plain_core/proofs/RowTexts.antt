@@ -3,7 +3,7 @@ use Rattle.std.proofs.Common.{◌≡◌, ℕ, List, ap, ap₂, ◌∙◌}
 use Rattle.dh_base.specs.declared.id.Id.{Id}
 use Rattle.escrow_book.specs.History.{History, free_of, if_commit_of, if_abort_of}
 use Rattle.plain_core.specs.declared.tables.Rows.TheVariants.{Free, Held}
-use Rattle.plain_core.specs.Ids.{plain_id}
+use Rattle.plain_script.specs.Ids.{plain_id}
 use Rattle.plain_core.specs.Tables.{free_row, hold_row, row_text}
 
 pub free_same : (h : History) (asset party : List ℕ) (account : Id) (n : ℕ) → account ≡ plain_id party → n ≡ free_of h account asset → free_row asset party n ≡ row_text Free h asset party

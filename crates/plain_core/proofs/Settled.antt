@@ -14,7 +14,7 @@ use Rattle.plain_script.specs.Rules.{DeclareByRules}
 use Rattle.plain_script.specs.declared.declaration.Declaration.{Declaration}
 use Rattle.plain_script.specs.declared.event.Event.{Event}
 use Rattle.plain_script.specs.declared.event.Event.TheVariants.{Register, Escrow, Transfer, Start, Commit, Abort, Claim}
-use Rattle.plain_core.specs.Ids.{plain_id}
+use Rattle.plain_script.specs.Ids.{plain_id}
 use Rattle.plain_core.specs.Ledgers.{LedgerTold, World, Step, Answer, act_at, at_ledger, register_answer, escrow_answer, transfer_answer, step_of}
 use Rattle.plain_core.specs.Reports.{exceeds, is_out_of_range}
 use Rattle.plain_core.specs.OneLog.{Moment, moment_at, IsSettlement, IsRepeat}

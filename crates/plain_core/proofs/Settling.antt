@@ -13,7 +13,7 @@ use Rattle.vote_log.specs.Entry.{Entry}
 use Rattle.vote_log.specs.Deciding.{outcome_of}
 use Rattle.plain_script.specs.declared.declaration.Declaration.{Declaration}
 use Rattle.plain_script.specs.declared.event.Event.TheVariants.{Claim}
-use Rattle.plain_core.specs.Ids.{plain_id}
+use Rattle.plain_script.specs.Ids.{plain_id}
 use Rattle.plain_core.specs.Ledgers.{LedgerTold, World, Answer, with_entry, refuses, claim_decided, claim_found, claim_answer, at_ledger}
 use Rattle.plain_core.specs.OneLog.{moment_at, IsOutcome, IsOpen, PaysOut, IsSettlement}
 use Rattle.plain_core.specs.declared.reply.Reply.TheVariants.{Settled, Already, RefusedClaim}

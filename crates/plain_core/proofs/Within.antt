@@ -14,7 +14,7 @@ use Rattle.plain_script.specs.BoundNames.{members_of}
 use Rattle.plain_script.specs.declared.declaration.Declaration.{Declaration}
 use Rattle.plain_script.specs.declared.event.Event.{Event}
 use Rattle.plain_script.specs.declared.event.Event.TheVariants.{Register, Escrow, Transfer, Start, Commit, Abort, Claim}
-use Rattle.plain_core.specs.Ids.{plain_id}
+use Rattle.plain_script.specs.Ids.{plain_id}
 use Rattle.plain_core.specs.Given.{AreWithin}
 use Rattle.plain_core.specs.Starts.{started_ledger}
 use Rattle.plain_core.specs.Ledgers.{LedgerTold, World, Answer, is_member, accepts, refuses, act_answer, register_answer, escrow_answer, transfer_answer, claim_decided, claim_found, claim_answer, first_answers, behind, at_ledger, step_of}

@@ -25,7 +25,7 @@ use Rattle.plain_script.specs.BoundNames.{members_of}
 use Rattle.plain_script.specs.declared.declaration.Declaration.{Declaration}
 use Rattle.plain_script.specs.declared.event.Event.{Event}
 use Rattle.plain_script.specs.declared.event.Event.TheVariants.{Register, Escrow, Transfer, Start, Commit, Abort, Claim}
-use Rattle.plain_core.specs.Ids.{plain_id}
+use Rattle.plain_script.specs.Ids.{plain_id}
 use Rattle.plain_core.specs.declared.act_refusal.ActRefusal.{ActRefusal}
 use Rattle.plain_core.specs.declared.act_refusal.ActRefusal.TheVariants as act
 use Rattle.plain_core.specs.declared.log_refusal.LogRefusal.TheVariants as refused

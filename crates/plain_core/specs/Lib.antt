@@ -1,5 +1,4 @@
 pub mod Given
-pub mod Ids
 pub mod Ledgers
 pub mod Openings
 pub mod Rehearsed

@@ -15,8 +15,8 @@ use Rattle.plain_script.specs.Reading.{ScriptTold, reading_of}
 use Rattle.plain_script.specs.declared.declaration.Declaration.{Declaration}
 use Rattle.plain_script.specs.declared.event.Event.TheVariants.{Claim}
 use Rattle.plain_script.specs.declared.numbered.Numbered.{Numbered}
-use Rattle.plain_core.specs.Ids.{plain_id}
-use Rattle.plain_core.specs.Openings.{rows_of}
+use Rattle.plain_script.specs.Ids.{plain_id}
+use Rattle.plain_script.specs.OpeningRows.{rows_of}
 use Rattle.plain_core.specs.Starts.{started_world}
 use Rattle.plain_core.specs.Ledgers.{LedgerTold, World, step_of}
 use Rattle.plain_core.specs.Reports.{reply_line}

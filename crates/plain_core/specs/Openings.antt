@@ -1,22 +1,8 @@
--- The opening rows of a ledger that a script declares.
-use Rattle.std.specs.Prelude.{ℕ, if◌then◌else◌, List, [], ◌∷◌}
+-- The names of the ledgers and deals that a script declares.
+use Rattle.std.specs.Prelude.{ℕ, List, [], ◌∷◌}
 use Rattle.std.specs.List.{flat_map}
-use Rattle.std.specs.Str.{bytes_eq}
-use Rattle.escrow_book.specs.Opening.{Row}
 use Rattle.plain_script.specs.declared.declaration.Declaration.{Declaration}
 use Rattle.plain_script.specs.declared.declaration.Declaration.TheVariants.{Ledger, Open, Deal}
-use Rattle.plain_core.specs.Ids.{plain_id}
-
--- the row that a declaration opens on the ledger, if it does
-abbrev pub rows_by : List ℕ → Declaration → List Row
-rows_by on (Ledger name) = []
-rows_by on (Open ledger asset party amount) =
-    if bytes_eq on ledger then (plain_id party, asset, amount) ∷ [] else []
-rows_by on (Deal name parties) = []
-
--- the rows of the ledger, in the order of their lines
-abbrev pub rows_of : List Declaration → List ℕ → List Row
-rows_of ds ledger = flat_map (rows_by ledger) ds
 
 -- the ledgers' names, in the order of their lines
 abbrev pub ledgers_by : Declaration → List (List ℕ)

@@ -2,7 +2,8 @@
 use Rattle.std.specs.Prelude.{ℕ, List, [], map}
 use Rattle.escrow_book.specs.Reached.{started}
 use Rattle.plain_script.specs.declared.declaration.Declaration.{Declaration}
-use Rattle.plain_core.specs.Openings.{rows_of, ledger_names}
+use Rattle.plain_script.specs.OpeningRows.{rows_of}
+use Rattle.plain_core.specs.Openings.{ledger_names}
 use Rattle.plain_core.specs.Ledgers.{LedgerTold, World}
 
 -- the most records of the one log

@@ -8,7 +8,7 @@ use Rattle.dh_base.specs.declared.outcome.Outcome.{Outcome}
 use Rattle.escrow_book.specs.History.{History, is_known, settlement_of, free_of, if_commit_of, if_abort_of, payout_of}
 use Rattle.plain_script.specs.BoundNames.{in_order, parties_of, members_of}
 use Rattle.plain_script.specs.declared.declaration.Declaration.{Declaration}
-use Rattle.plain_core.specs.Ids.{plain_id}
+use Rattle.plain_script.specs.Ids.{plain_id}
 use Rattle.plain_core.specs.Openings.{deal_names}
 use Rattle.plain_core.specs.Ledgers.{LedgerTold, World}
 use Rattle.plain_core.specs.declared.tables.Rows.{Rows}

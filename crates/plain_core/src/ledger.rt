@@ -5,7 +5,7 @@ ghost use Rattle.escrow_book.specs.Base.{greatest_turn};
 ghost use Rattle.escrow_book.specs.Reached.{are_parties};
 ghost use Rattle.escrow_book.specs.declared.fault.BookFault.TheVariants.{NoMemory as WantOfMemory};
 ghost use Rattle.plain_core.specs.declared.reply.Reply.TheVariants.{RefusedAct as IsRefusedAct};
-ghost use Rattle.plain_core.specs.Ids.{plain_id};
+ghost use Rattle.plain_script.specs.Ids.{plain_id};
 ghost use Rattle.plain_core.specs.Starts.{started_ledger};
 ghost use Rattle.plain_core.specs.Given.{Gives};
 ghost use Rattle.plain_core.specs.Ledgers.{
@@ -20,12 +20,11 @@ ghost use Rattle.plain_core.specs.Ledgers.{
 
 use crate::act_refusal::ActRefusal;
 use crate::claim_refusal::ClaimRefusal;
-use crate::ids::{plain_id, plain_ids};
 use crate::openings::start_book;
 use crate::reply::Reply;
 use dh_base::{Id, Name, NoMemory};
 use escrow_book::{Book, BookFault};
-use plain_script::Declarations;
+use plain_script::{Declarations, plain_id, plain_ids};
 use std::alloc::Global;
 use std::marker::Model;
 use vote_log::{LogRecord, outcome};

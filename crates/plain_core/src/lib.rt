@@ -4,7 +4,6 @@
 
 pub mod act_refusal;
 pub mod claim_refusal;
-mod ids;
 pub mod laws;
 mod ledger;
 pub mod log_refusal;

@@ -2,12 +2,11 @@
 
 ghost use Rattle.std.specs.Prelude.{◌≡◌, IfOk};
 ghost use Rattle.escrow_book.specs.Reached.{started};
-ghost use Rattle.plain_core.specs.Openings.{rows_of};
+ghost use Rattle.plain_script.specs.OpeningRows.{rows_of};
 
-use crate::ids::plain_id;
 use dh_base::{Id, Name, NoMemory};
 use escrow_book::Book;
-use plain_script::{Declaration, Declarations};
+use plain_script::{Declaration, Declarations, plain_id};
 use std::alloc::Global;
 
 /// The rows that the declarations open on the ledger, in the order of their lines.

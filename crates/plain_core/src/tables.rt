@@ -5,7 +5,7 @@ ghost use Rattle.std.specs.List.{find, flat_map};
 ghost use Rattle.std.specs.Option.{option_copied};
 ghost use Rattle.std.specs.Str.{bytes_eq};
 ghost use Rattle.escrow_book.specs.History.{payout_of, settlement_of};
-ghost use Rattle.plain_core.specs.Ids.{plain_id};
+ghost use Rattle.plain_script.specs.Ids.{plain_id};
 ghost use Rattle.plain_core.specs.Openings.{deal_names};
 ghost use Rattle.plain_core.specs.Tables.{
   assets_of,
@@ -21,13 +21,12 @@ ghost use Rattle.plain_core.specs.Tables.{
   tables_text,
 };
 
-use crate::ids::plain_id;
 use crate::ledger::Ledger;
 use crate::order::{in_order, listed};
 use crate::world::World;
 use dh_base::{Id, Name, NoMemory, Outcome};
 use escrow_book::Book;
-use plain_script::{Declaration, Declarations};
+use plain_script::{Declaration, Declarations, plain_id};
 use std::alloc::Global;
 use std::fmt::Write;
 

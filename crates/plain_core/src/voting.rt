@@ -6,11 +6,11 @@ ghost use Rattle.dh_base.specs.Limits.{most_parties};
 ghost use Rattle.plain_core.specs.Given.{GivesLog};
 ghost use Rattle.plain_core.specs.Ledgers.{add_answer, start_answer, vote_answer};
 
-use crate::ids::plain_id;
 use crate::ledger::is_member;
 use crate::log_refusal::LogRefusal;
 use crate::reply::Reply;
 use dh_base::{Name, NoMemory, Outcome};
+use plain_script::plain_id;
 use vote_log::{LogFault, LogRecord, Records};
 
 /// Adds the record to the log.

@@ -5,8 +5,10 @@ pub mod Fronting
 pub mod NamesSame
 pub mod NameWords
 pub mod Opened
+pub mod OpeningRows
 pub mod Orders
 pub mod Parties
+pub mod PlainIds
 pub mod PlainWords
 pub mod ScriptSpelling
 pub mod StatementReading

@@ -6,7 +6,9 @@ use Rattle.std.specs.Str.{bytes_eq}
 use Rattle.std.proofs.lemmas.Bool.{and_parts, leb-true, not-false}
 use Rattle.std.proofs.lemmas.Slice.Eq.{bytes_eq-Decides}
 use Rattle.std.proofs.lemmas.List.Sums.{sum_by-append}
-use Rattle.plain_script.specs.BoundNames.{opened_of, opened_by, opens_on, opens_row, is_thing, is_ledger, is_good_row}
+use Rattle.plain_script.specs.BoundNames.{opened_of, opened_by, opens_on, opens_row, is_thing, is_ledger}
+use Rattle.plain_script.specs.OpeningRows.{is_good_row, is_good_line}
+use Rattle.plain_script.proofs.OpeningRows.{good_line_same}
 use Rattle.std.proofs.lemmas.List.{append-nil}
 use Rattle.line_text.proofs.Faults.{unbroken}
 use Rattle.plain_script.specs.Rules.{rule_with_parties, declaration_rule, DeclareByRules}
@@ -23,7 +25,8 @@ opened_push ds d ledger asset = omega (arith, sum_by-append (opened_by ledger as
 
 good_fits : (ds : List Declaration) (ledger asset party : List ℕ) (amount : ℕ) → is_good_row ds ledger asset party amount ≡ true → opened_of ds ledger asset + amount < 2 ^ 63
 good_fits ds ledger asset party amount good =
-    let a = and_parts (nat_lt (count_by (opens_on ledger) ds) 1024) _ good in
+    let lines : is_good_line ds ledger asset party amount ≡ true = good_line_same ds ledger asset party amount ∙ good in
+    let a = and_parts (nat_lt (count_by (opens_on ledger) ds) 1024) _ lines in
     let b = and_parts (nat_lt 0 amount) _ a.1 in
     let c = and_parts (not (list_any (opens_row ledger asset party) ds)) _ b.1 in
     omega (arith, leb-true (opened_of ds ledger asset + amount) (2 ^ 63 - 1) c.1)

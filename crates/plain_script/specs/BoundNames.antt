@@ -5,7 +5,6 @@ use Rattle.std.specs.Str.{bytes_eq}
 use Rattle.std.specs.Ordering.{nat_cmp}
 use Rattle.std.specs.Cmp.Lexicographic.{slice_cmp}
 use Rattle.std.specs.BTreeSet.{insert_key}
-use Rattle.plain_script.specs.Limits.{most_rows}
 use Rattle.plain_script.specs.declared.declaration.Declaration.{Declaration}
 use Rattle.plain_script.specs.declared.declaration.Declaration.TheVariants.{Ledger, Open, Deal}
 
@@ -112,11 +111,3 @@ opened_by ledger asset d = if opens_asset ledger asset d then amount_opened d el
 -- what the rows of the ledger open of the asset
 abbrev pub opened_of : List Declaration → List ℕ → List ℕ → ℕ
 opened_of ds ledger asset = sum_by (opened_by ledger asset) ds
-
--- A row is good where it is one of the ledger's first 1,024, its amount is above 0, its asset and
--- party are new there, and the asset's total so far is at most 2 ^ 63 - 1.
-abbrev pub is_good_row : List Declaration → List ℕ → List ℕ → List ℕ → ℕ → Bool
-is_good_row ds ledger asset party amount =
-    nat_lt (count_by (opens_on ledger) ds) most_rows && (nat_lt 0 amount
-    && (not (list_any (opens_row ledger asset party) ds)
-    && nat_le (opened_of ds ledger asset + amount) (2 ^ 63 - 1)))

@@ -2,6 +2,8 @@ pub mod Limits
 pub mod Said
 pub mod Spelling
 pub mod BoundNames
+pub mod Ids
+pub mod OpeningRows
 pub mod Rules
 pub mod RuleNames
 pub mod Reading

@@ -19,6 +19,6 @@ most_members = 16
 abbrev pub most_parties : ℕ
 most_parties = 256
 
--- the most opening rows, of a ledger and of a script
+-- the most opening rows of a script
 abbrev pub most_rows : ℕ
 most_rows = 1024

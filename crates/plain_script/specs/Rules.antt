@@ -4,7 +4,8 @@ use Rattle.std.specs.List.{list_any, flat_map}
 use Rattle.std.specs.Str.{bytes_eq}
 use Rattle.line_text.specs.Faults.{broken_if}
 use Rattle.plain_script.specs.Limits.{most_lines, most_ledgers, most_deals, most_members, most_parties, most_rows}
-use Rattle.plain_script.specs.BoundNames.{is_ledger, is_deal, is_party, is_thing, is_bound, parties_of, is_ledger_line, is_deal_line, is_opening_line, is_good_row, are_different}
+use Rattle.plain_script.specs.BoundNames.{is_ledger, is_deal, is_party, is_thing, is_bound, parties_of, is_ledger_line, is_deal_line, is_opening_line, are_different}
+use Rattle.plain_script.specs.OpeningRows.{is_good_row}
 use Rattle.plain_script.specs.RuleNames.{rule_number}
 use Rattle.plain_script.specs.declared.declaration.Declaration.{Declaration}
 use Rattle.plain_script.specs.declared.declaration.Declaration.TheVariants.{Ledger, Open, Deal}

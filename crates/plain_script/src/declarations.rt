@@ -13,13 +13,13 @@ ghost use Rattle.plain_script.specs.BoundNames.{
   with_names,
   are_different,
   opened_of,
-  is_good_row,
   is_ledger_line,
   is_deal_line,
   is_opening_line,
   opens_on,
   opens_row,
 };
+ghost use Rattle.plain_script.specs.OpeningRows.{is_good_row, is_good_line};
 ghost use Rattle.plain_script.specs.Rules.{
   declaration_rule,
   ledger_rule,
@@ -52,7 +52,7 @@ const MOST_MEMBERS: usize = 16;
 /// The most parties in all.
 const MOST_PARTIES: usize = 256;
 
-/// The most opening rows, of a ledger and of a script.
+/// The most opening rows of a script, and so of a ledger too.
 const MOST_ROWS: usize = 1024;
 
 /// The declarations so far. A contract sees their list.
@@ -217,8 +217,16 @@ impl Declarations {
     }
 
     /// Whether a row that is declared next is good.
+    #[tactic(auto, using(crate::proofs::OpeningRows::good_line_same))]
     fn is_good_row(&self, ledger: &Name, asset: &Name, party: &Name, amount: u64) -> bool
         ensures { result ≡ is_good_row self.now ledger.now asset.now party.now amount }
+    {
+        self.is_good_line(ledger, asset, party, amount)
+    }
+
+    /// The same by the lines so far, of which no rows are made.
+    fn is_good_line(&self, ledger: &Name, asset: &Name, party: &Name, amount: u64) -> bool
+        ensures { result ≡ is_good_line self.now ledger.now asset.now party.now amount }
     {
         if self.row_count(ledger) >= MOST_ROWS {
             return false;

@@ -6,6 +6,7 @@
 //! - `declaration`, `event`, `statement`, `numbered`: what a line says.
 //! - `keyword`, `first_word`, `saying`: reading it from the line's words.
 //! - `declarations`: what the lines so far have declared, and the rules of a declaration.
+//! - `ids`: the ids that plain parties and deals have in books and logs.
 //! - `place`, `reader`: the lines so far, and the rule that the next one breaks.
 //! - `script`: a whole script.
 //! - `rule`, `refused_line`, `halt`: why a script is refused, and how that is told.
@@ -17,6 +18,7 @@ pub mod declarations;
 pub mod event;
 mod first_word;
 pub mod halt;
+pub mod ids;
 pub mod keyword;
 pub mod laws;
 pub mod numbered;
@@ -32,6 +34,7 @@ pub use declaration::Declaration;
 pub use declarations::Declarations;
 pub use event::Event;
 pub use halt::PlainHalt;
+pub use ids::{plain_id, plain_ids};
 pub use numbered::Numbered;
 pub use place::Place;
 pub use refused_line::RefusedLine;

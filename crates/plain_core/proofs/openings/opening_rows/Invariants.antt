@@ -1,5 +1,5 @@
 use Rattle.std.proofs.Common.{◌≡◌, take}
-use Rattle.plain_core.specs.Openings.{rows_of}
+use Rattle.plain_script.specs.OpeningRows.{rows_of}
 use Rattle.plain_core.proofs.openings.opening_rows.Given as goal
 
 abbrev pub invariant-loop-declaration : goal.invariant-loop-declaration

@@ -1,7 +1,7 @@
 use Rattle.std.proofs.Common.{◌≡◌, List, ap, ◌∙◌}
 use Rattle.escrow_book.specs.Opening.{is_good_opening}
 use Rattle.plain_script.specs.declared.declaration.Declaration.{Declaration}
-use Rattle.plain_core.specs.Openings.{rows_of}
+use Rattle.plain_script.specs.OpeningRows.{rows_of}
 use Rattle.plain_core.proofs.GoodOpening.{good_opening}
 use Rattle.plain_core.proofs.openings.start_book.Goals as goal
 

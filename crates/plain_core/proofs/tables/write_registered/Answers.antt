@@ -1,7 +1,7 @@
 use Rattle.std.proofs.Common.{rules, ◌≡◌, Some, ap, sym, ◌∙◌, arith}
 use Rattle.std.proofs.lemmas.Grind.{common_steps}
 use Rattle.escrow_book.specs.History.{settlement_of}
-use Rattle.plain_core.specs.Ids.{plain_id}
+use Rattle.plain_script.specs.Ids.{plain_id}
 use Rattle.plain_core.proofs.tables.write_registered.Goals as goal
 
 pub returns-in_ok-write-in-Some : goal.returns-in_ok-write-in-Some

@@ -1,7 +1,7 @@
 use Rattle.std.proofs.Common.{◌≡◌, ℕ, ◌+◌, ◌-◌, List, ◌∷◌, ◌++◌, length, drop, replicate, refl, ap, ◌∙◌, arith}
 use Rattle.std.proofs.lemmas.List.{drop-replicate}
 use Rattle.dh_base.specs.declared.id.Id.{Id}
-use Rattle.plain_core.proofs.ids.plain_id.Goals as goal
+use Rattle.plain_script.proofs.ids.plain_id.Goals as goal
 
 -- an id of a length, characters and what stands behind them
 abbrev made : ℕ → List ℕ → List ℕ → Id

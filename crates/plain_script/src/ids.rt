@@ -1,7 +1,7 @@
 //! The ids of plain parties and deals.
 
 ghost use Rattle.std.specs.Prelude.{◌≡◌, IfOk, map};
-ghost use Rattle.plain_core.specs.Ids.{plain_id};
+ghost use Rattle.plain_script.specs.Ids.{plain_id};
 
 use dh_base::{Id, Name, NoMemory};
 use std::alloc::Global;
