@@ -19,7 +19,7 @@ use Rattle.plain_script.specs.declared.declaration.Declaration.{Declaration}
 use Rattle.plain_script.specs.Ids.{plain_id}
 use Rattle.plain_core.specs.Ledgers.{LedgerTold, Answer, is_member, with_entry, accepts, refuses, act_refusal, act_answer, register_answer, escrow_answer, transfer_answer}
 use Rattle.plain_core.specs.declared.reply.Reply.{Reply}
-use Rattle.plain_core.specs.declared.reply.Reply.TheVariants.{Done, Entered, Settled as IsSettled, Already, RefusedAct, RefusedEntry, RefusedClaim}
+use Rattle.plain_core.specs.declared.reply.Reply.TheVariants.{Settled as IsSettled, Already, RefusedAct}
 use Rattle.plain_core.specs.declared.act_refusal.ActRefusal.TheVariants.{NotAParty}
 use Rattle.plain_core.proofs.Members.{members_are_parties}
 

@@ -1,5 +1,5 @@
 -- What stands on the ledger of a name stands there to the end.
-use Rattle.std.proofs.Common.{◌≡◌, ℕ, Bool, true, false, cond, Option, Some, None, List, [], ◌∷◌, ◌++◌, refl, sym, ap, subst, ◌∙◌, inl, inr, ◌⊎◌}
+use Rattle.std.proofs.Common.{◌≡◌, ℕ, Bool, true, false, cond, Some, None, List, [], ◌∷◌, refl, sym, ap, subst, ◌∙◌}
 use Rattle.std.specs.Prelude.{find, Contains}
 use Rattle.std.specs.Option.{option_or, unwrap_or}
 use Rattle.std.specs.Str.{bytes_eq}
@@ -23,7 +23,7 @@ use Rattle.plain_core.specs.declared.reply.Reply.TheVariants.{RefusedAct, Refuse
 use Rattle.plain_core.specs.declared.act_refusal.ActRefusal.TheVariants.{UnknownDeal as UnknownAct}
 use Rattle.plain_core.specs.declared.claim_refusal.ClaimRefusal.TheVariants.{UnknownDeal}
 use Rattle.plain_core.proofs.Places.{is_named}
-use Rattle.plain_core.proofs.Finding.{contains_none, contains_head, contains_tail}
+use Rattle.plain_core.proofs.Finding.{contains_head, contains_tail}
 use Rattle.plain_core.proofs.Following.{GrowthLaws, Follows, stays, register_quiet, escrow_quiet, transfer_quiet}
 use Rattle.plain_core.proofs.Settling.{claim_follows, claim_at}
 

@@ -1,5 +1,5 @@
 -- No asset's opening rows pass the greatest total.
-use Rattle.std.proofs.Common.{◌≡◌, ℕ, ◌+◌, ◌<◌, ◌^◌, ◌-◌, Bool, true, false, not, nat_lt, Option, None, List, [], ◌∷◌, ◌++◌, refl, sym, ap, ◌∙◌, arith, append_assoc}
+use Rattle.std.proofs.Common.{◌≡◌, ℕ, ◌+◌, ◌<◌, ◌^◌, ◌-◌, Bool, true, false, not, nat_lt, None, List, [], ◌∷◌, ◌++◌, refl, sym, ap, ◌∙◌, arith, append_assoc}
 use Rattle.std.specs.List.{list_any}
 use Rattle.std.specs.Prelude.{count_by}
 use Rattle.std.specs.Str.{bytes_eq}
@@ -14,7 +14,6 @@ use Rattle.line_text.proofs.Faults.{unbroken}
 use Rattle.plain_script.specs.Rules.{rule_with_parties, declaration_rule, DeclareByRules}
 use Rattle.plain_script.specs.declared.declaration.Declaration.{Declaration}
 use Rattle.plain_script.specs.declared.declaration.Declaration.TheVariants.{Ledger, Open, Deal}
-use Rattle.plain_script.specs.declared.rule.ScriptRule.{ScriptRule}
 use Rattle.plain_script.specs.declared.rule.ScriptRule.TheVariants.{NameTwice, UnknownName, BadOpening}
 
 abbrev AllSmall : List Declaration → Type 0

@@ -4,13 +4,13 @@ use Rattle.std.specs.Fmt.{decimal}
 use Rattle.std.specs.Char.{is_ascii_digit}
 use Rattle.std.specs.Str.{all_ascii_digits}
 use Rattle.std.specs.Str.Parse.{digits_value}
-use Rattle.std.specs.List.{list_all, AllByRecursion}
+use Rattle.std.specs.List.{list_all}
 use Rattle.std.proofs.lemmas.Bool.{and_parts, and_from, leb-true, ne_eqb, not_from_false}
 use Rattle.std.proofs.lemmas.Option.{cond_some}
 use Rattle.dh_base.specs.Names.{is_name}
 use Rattle.line_text.specs.Bytes.{lacks}
 use Rattle.line_text.specs.Numbers.{is_number}
-use Rattle.line_text.specs.Words.{words_of, spelled_words}
+use Rattle.line_text.specs.Words.{words_of}
 use Rattle.line_text.proofs.Joining.{words_of-spelled, spelled-words_of}
 use Rattle.line_text.proofs.Plain.{lacks-name, lacks-decimal, lacks-spelled_words}
 use Rattle.line_text.proofs.PlainWords.{IsPlain, AllPlain, no_spaces, no_feeds}
