@@ -1,4 +1,4 @@
+pub mod Endings
 pub mod Answers
 pub mod Commands
-pub mod Endings
 pub mod Inputs

@@ -1,9 +1,9 @@
-pub mod Given
-pub mod Ledgers
-pub mod Openings
-pub mod Rehearsed
 pub mod OneLog
+pub mod Ledgers
 pub mod Replies
 pub mod Reports
-pub mod Starts
 pub mod Tables
+pub mod Starts
+pub mod Openings
+pub mod Rehearsed
+pub mod Given

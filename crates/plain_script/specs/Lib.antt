@@ -1,11 +1,11 @@
-pub mod Limits
-pub mod Said
 pub mod Spelling
-pub mod BoundNames
-pub mod Ids
-pub mod OpeningRows
+pub mod Said
 pub mod Rules
 pub mod RuleNames
+pub mod BoundNames
+pub mod OpeningRows
+pub mod Ids
+pub mod Limits
 pub mod Reading
 pub mod Positions
 pub mod Answers
