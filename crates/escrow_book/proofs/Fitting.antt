@@ -64,13 +64,21 @@ no_hold f (row ∷ holds) d p x e = at (is_hold d p x row) refl e (no_hold f hol
     at true is found later = absurd cc
     at false is found later = omega (arith, ap (λ b. cond b (f row) 0) is, sum_by-cons (at_hold f d p x) row holds, later found)
 
-no_deal : (deals : List KnownDeal) (d : Id) → is_some (find_deal deals d) ≡ false → sum_by (λ (k : KnownDeal). cond {A = ℕ} (same_id k.deal d) 1 0) deals ≡ 0
+pub no_deal : (deals : List KnownDeal) (d : Id) → is_some (find_deal deals d) ≡ false → sum_by (λ (k : KnownDeal). cond {A = ℕ} (same_id k.deal d) 1 0) deals ≡ 0
 no_deal [] d e = refl
 no_deal (k ∷ deals) d e = at (same_id d k.deal) refl e (no_deal deals d)
   where
     at : (b : Bool) → same_id d k.deal ≡ b → is_some (cond b (Some k) (find_deal deals d)) ≡ false → (is_some (find_deal deals d) ≡ false → sum_by (λ (k : KnownDeal). cond {A = ℕ} (same_id k.deal d) 1 0) deals ≡ 0) → sum_by (λ (k : KnownDeal). cond {A = ℕ} (same_id k.deal d) 1 0) (k ∷ deals) ≡ 0
     at true is found later = absurd cc
     at false is found later = omega (arith, ap (λ b. cond {A = ℕ} b 1 0) (same_id-swap k.deal d ∙ is), sum_by-cons (λ (k : KnownDeal). cond {A = ℕ} (same_id k.deal d) 1 0) k deals, later found)
+
+-- a new deal stands once too
+pub deal_once : (deals : List KnownDeal) → ((e : Id) → sum_by (λ (k : KnownDeal). cond {A = ℕ} (same_id k.deal e) 1 0) deals ≤ 1) → (k : KnownDeal) → is_some (find_deal deals k.deal) ≡ false → (e : Id) → sum_by (λ (k : KnownDeal). cond {A = ℕ} (same_id k.deal e) 1 0) (deals ++ k ∷ []) ≤ 1
+deal_once deals before k new e = at (same_id k.deal e) refl
+  where
+    at : (b : Bool) → same_id k.deal e ≡ b → sum_by (λ (k : KnownDeal). cond {A = ℕ} (same_id k.deal e) 1 0) (deals ++ k ∷ []) ≤ 1
+    at true same = omega (arith, sum_by_push (λ (k : KnownDeal). cond {A = ℕ} (same_id k.deal e) 1 0) deals k, at_most (same_id k.deal e) 1, no_deal deals e (ap (λ i. is_some (find_deal deals i)) (sym (id_from_same k.deal e same)) ∙ new))
+    at false other = omega (arith, sum_by_push (λ (k : KnownDeal). cond {A = ℕ} (same_id k.deal e) 1 0) deals k, ap (λ b. cond {A = ℕ} b 1 0) other, before e)
 
 module _ (h : History) (base : Base) (below : Below h base) where
   free_below : (a : Id) (y : List ℕ) (n : ℕ) → has_row base.0 a y ≡ false → n ≡ free_of h a y → (p : Id) (x : List ℕ) → opening_of (base.0 ++ (a, y, n) ∷ []) p x ≤ free_of h p x
@@ -93,13 +101,6 @@ module _ (h : History) (base : Base) (below : Below h base) where
       at true same = at_same_three d row.deal p row.account x row.asset (λ d p x. sum_by (at_hold f d p x) (base.1.holds ++ row ∷ []) ≤ owned d p x) same here
       at false other = omega (arith, sum_by_push (at_hold f d p x) base.1.holds row, ap (λ b. cond b (f row) 0) other, before d p x)
 
-  deal_once : (k : KnownDeal) → is_some (find_deal base.1.deals k.deal) ≡ false → (e : Id) → sum_by (λ (k : KnownDeal). cond {A = ℕ} (same_id k.deal e) 1 0) (base.1.deals ++ k ∷ []) ≤ 1
-  deal_once k new e = at (same_id k.deal e) refl
-    where
-      at : (b : Bool) → same_id k.deal e ≡ b → sum_by (λ (k : KnownDeal). cond {A = ℕ} (same_id k.deal e) 1 0) (base.1.deals ++ k ∷ []) ≤ 1
-      at true same = omega (arith, sum_by_push (λ (k : KnownDeal). cond {A = ℕ} (same_id k.deal e) 1 0) base.1.deals k, at_most (same_id k.deal e) 1, no_deal base.1.deals e (ap (λ i. is_some (find_deal base.1.deals i)) (sym (id_from_same k.deal e same)) ∙ new))
-      at false other = omega (arith, sum_by_push (λ (k : KnownDeal). cond {A = ℕ} (same_id k.deal e) 1 0) base.1.deals k, ap (λ b. cond {A = ℕ} b 1 0) other, below.once e)
-
   -- a row more, which isn't bad and says what the history says
   below_more : (row : BookRow) → is_bad_row base row ≡ false → Says h row → Below h (with_row base row)
   below_more (Free a y n) good says = record { free = free_below a y n good says; commits = below.commits; aborts = below.aborts; once = below.once; said = below.said }
@@ -109,7 +110,7 @@ module _ (h : History) (base : Base) (below : Below h base) where
         free = below.free;
         commits = below.commits;
         aborts = below.aborts;
-        once = deal_once (record { deal = d; parties = parties; outcome = o }) new;
+        once = deal_once base.1.deals below.once (record { deal = d; parties = parties; outcome = o }) new;
         said = all_append (λ (k : KnownDeal). k.outcome ≡ settlement_of h k.deal) base.1.deals (record { deal = d; parties = parties; outcome = o } ∷ []) below.said (sym says.1, tt);
       }
   below_more (Hold d a y c b) good says =

@@ -26,3 +26,5 @@ pub mod Fitting
 pub mod RowsFound
 pub mod Standing
 pub mod OpeningRows
+pub mod Noting
+pub mod Summing

@@ -72,7 +72,7 @@ pub some_value : {T : Type 0} (o : Option T) → is_some o ≡ true → (t : T) 
 some_value None e = absurd cc
 some_value (Some t) e = (t, refl)
 
-both_none : {T : Type 0} (o p : Option T) → option_or o p ≡ None → (o ≡ None) × (p ≡ None)
+pub both_none : {T : Type 0} (o p : Option T) → option_or o p ≡ None → (o ≡ None) × (p ≡ None)
 both_none None p e = (refl, e)
 both_none (Some t) p e = absurd cc
 

@@ -42,7 +42,7 @@ no_value : {T : Type 0} (o : Option T) → is_some o ≡ false → o ≡ None
 no_value None e = refl
 no_value (Some t) e = absurd cc
 
-among_some : (p : Id) (o : Option KnownDeal) → is_among p (option_map (λ (known : KnownDeal). known.parties) o) ≡ true → is_some o ≡ true
+pub among_some : (p : Id) (o : Option KnownDeal) → is_among p (option_map (λ (known : KnownDeal). known.parties) o) ≡ true → is_some o ≡ true
 among_some p None e = absurd cc
 among_some p (Some known) e = refl
 

@@ -1,7 +1,7 @@
 -- What a history begins with: the free amounts, and what is carried along of deals that began
 -- before. A whole book carries nothing; a part of a book carries the deals that it touches, what
 -- its parties hold there, and their moves.
-use Rattle.std.specs.Prelude.{ℕ, ◌^◌, ◌-◌, ◌+◌, ◌<◌, ◌≤◌, ◌≡◌, max, Bool, true, ◌&&◌, if◌then◌else◌, Option, is_some, List, []}
+use Rattle.std.specs.Prelude.{ℕ, ◌^◌, ◌-◌, ◌+◌, ◌<◌, ◌≤◌, ◌≡◌, max, Bool, true, ◌&&◌, if◌then◌else◌, Option, is_some, List, [], ◌∷◌, ◌++◌}
 use Rattle.std.specs.List.{sum_by, find, AllByRecursion}
 use Rattle.std.specs.Option.{option_map, option_and_then, option_map_or}
 use Rattle.std.specs.Str.{bytes_eq}
@@ -95,6 +95,15 @@ open_most base asset known = most_if_open known base.holds asset
 -- end
 abbrev pub base_total : List Row → Carried → List ℕ → ℕ
 base_total rows base asset = total_of rows asset + sum_by (open_most base asset) base.deals
+
+-- what there is of the row's asset with the row
+abbrev pub total_with_free : Base → Row → ℕ
+total_with_free base row = base_total (base.0 ++ row ∷ []) base.1 row.1
+
+-- what there is of the hold's asset with the hold
+abbrev pub total_with_hold : Base → HoldRow → ℕ
+total_with_hold base hold =
+    base_total base.0 (record base.1 { holds = base.1.holds ++ hold ∷ [] }) hold.asset
 
 -- no asset is there above the greatest amount, each hold is of a carried deal, and its amounts and
 -- the moves fit

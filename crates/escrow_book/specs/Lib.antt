@@ -11,3 +11,5 @@ pub mod Conserved
 pub mod Kept
 pub mod BookFaults
 pub mod PartFaults
+pub mod Noted
+pub mod Summed

@@ -1,5 +1,5 @@
 -- What the rows of a part that are taken up so far stand for.
-use Rattle.escrow_book.specs.declared.part.PartRows.{PartRows}
+use Rattle.escrow_book.specs.declared.part_rows.PartRows.{PartRows}
 use Rattle.escrow_book.specs.Base.{Base}
 use Rattle.escrow_book.specs.Kept.{base_kept}
 

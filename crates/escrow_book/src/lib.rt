@@ -11,8 +11,10 @@
 //! - `opening`: opening rows, and the first that isn't good
 //! - `part`: the rows of a part of a book, taken up one by one
 //! - `part_fault`: why rows make no part
-//! - `part_sums`: what there is of an asset in the rows of a part
+//! - `part_rows`: what is taken up of the rows of a part
+//! - `part_sums`: running sums of the rows of a part
 //! - `row`: what a part of a book is made of
+//! - `tally`: sums by key
 #![tactic(auto)]
 
 pub mod book;
@@ -24,8 +26,10 @@ pub mod laws;
 pub mod opening;
 mod part;
 pub mod part_fault;
+mod part_rows;
 mod part_sums;
 pub mod row;
+mod tally;
 
 pub use book::Book;
 pub use change::Change;

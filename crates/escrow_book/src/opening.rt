@@ -1,10 +1,9 @@
 //! Opening rows: what accounts hold when a book starts.
 
-ghost use Rattle.std.specs.Prelude.{◌≡◌, ◌++◌, ◌∷◌, [], nat_le};
+ghost use Rattle.std.specs.Prelude.{◌≡◌, ◌-◌, ◌^◌, ◌++◌, ◌∷◌, [], min, nat_le};
 ghost use Rattle.dh_base.specs.Amounts.{greatest_amount};
-ghost use Rattle.escrow_book.specs.Opening.{row_amount, has_row, total_of, is_good_row, first_bad_row};
+ghost use Rattle.escrow_book.specs.Opening.{row_amount, asset_amount, has_row, total_of, is_good_row, first_bad_row};
 
-use crate::part_sums::free_sum;
 use dh_base::{GREATEST_AMOUNT, Id, Name};
 
 /// The most opening rows of a ledger.
@@ -29,12 +28,30 @@ pub(crate) fn has_row(rows: &[(Id, Name, u64)], account: &Id, asset: &Name) -> b
     rows.iter().any(|row| *account == row.0 && *asset == row.1)
 }
 
+fn asset_amount(row: &(Id, Name, u64), asset: &Name) -> u64
+    ensures { result ≡ asset_amount asset.now row.now }
+{
+    let (_, kind, amount) = row;
+    if asset == kind { *amount } else { 0 }
+}
+
+/// What there is of the asset in all. A sum that doesn't fit stays at the greatest number.
+fn total_of(rows: &[(Id, Name, u64)], asset: &Name) -> u64
+    ensures { result ≡ min (total_of rows.now asset.now) (2 ^ 64 - 1) }
+{
+    let mut sum: u64 = 0;
+    for row in rows {
+        sum = sum.saturating_add(asset_amount(row, asset));
+    }
+    sum
+}
+
 /// Whether the asset's total stays within the greatest amount with that row.
 fn has_room(front: &[(Id, Name, u64)], row: &(Id, Name, u64)) -> bool
     ensures { result ≡ nat_le (total_of (front.now ++ row.now ∷ []) row.now.1) greatest_amount }
 {
     let (_, asset, amount) = row;
-    free_sum(front, asset).saturating_add(*amount) <= GREATEST_AMOUNT
+    total_of(front, asset).saturating_add(*amount) <= GREATEST_AMOUNT
 }
 
 /// Whether the row is good behind those in front of it.

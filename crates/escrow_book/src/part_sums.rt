@@ -1,95 +1,93 @@
-//! What there is of an asset in the rows of a part. A sum that doesn't fit stays at the greatest
-//! number.
+//! Running sums of the rows of a part. A sum that doesn't fit stays at the greatest number.
 
-ghost use Rattle.std.specs.Prelude.{◌≡◌, ◌-◌, ◌^◌, min, max};
-ghost use Rattle.std.specs.List.{sum_by};
-ghost use Rattle.escrow_book.specs.Opening.{total_of, asset_amount};
-ghost use Rattle.escrow_book.specs.Base.{hold_commit, hold_abort, most_if_open};
+ghost use Rattle.std.specs.Prelude.{◌≡◌, ℕ, List, IsTrue, OnOk};
+ghost use Rattle.dh_base.specs.declared.id.Id.{Id};
+ghost use Rattle.escrow_book.specs.Noted.{total_noted, commit_noted, abort_noted, has_total, has_hold, rise, NoteTheSame, NotesTotal, NotesHold};
 
-use crate::known_deal::KnownDeal;
 use crate::row::HoldRow;
+use crate::tally::Tally;
 use dh_base::{Id, Name};
+use std::alloc::{AllocError, Global};
 
-fn free_amount(row: &(Id, Name, u64), asset: &Name) -> u64
-    ensures { result ≡ asset_amount asset.now row.now }
-{
-    let (_, kind, amount) = row;
-    if asset == kind { *amount } else { 0 }
+/// What there is of each asset, and what the holds of each deal are together on either end.
+#[derive(Drop)]
+pub(crate) struct PartSums {
+    totals: Tally<Name>,
+    commits: Tally<(Id, Name)>,
+    aborts: Tally<(Id, Name)>,
 }
 
-fn commit_amount(row: &HoldRow, deal: &Id, asset: &Name) -> u64
-    ensures { result ≡ hold_commit deal.now asset.now row.now }
-{
-    if *deal == row.deal && *asset == row.asset {
-        row.commit
-    } else {
-        0
+impl PartSums {
+    /// Every sum is 0.
+    pub(crate) fn new(alloc: Global) -> PartSums
+        ensures totals { (asset : List ℕ) → total_noted result asset ≡ 0 }
+        ensures commits { (deal : Id) (asset : List ℕ) → commit_noted result deal asset ≡ 0 }
+        ensures aborts { (deal : Id) (asset : List ℕ) → abort_noted result deal asset ≡ 0 }
+    {
+        PartSums {
+            totals: Tally::new(alloc),
+            commits: Tally::new(alloc),
+            aborts: Tally::new(alloc),
+        }
     }
-}
 
-fn abort_amount(row: &HoldRow, deal: &Id, asset: &Name) -> u64
-    ensures { result ≡ hold_abort deal.now asset.now row.now }
-{
-    if *deal == row.deal && *asset == row.asset {
-        row.abort
-    } else {
-        0
+    /// What there is of the asset.
+    pub(crate) fn total(&self, asset: &Name) -> u64
+        ensures { result ≡ total_noted self.now asset.now }
+    {
+        self.totals.at(asset)
     }
-}
 
-/// What the free amounts of the asset are together.
-pub(crate) fn free_sum(rows: &[(Id, Name, u64)], asset: &Name) -> u64
-    ensures { result ≡ min (total_of rows.now asset.now) (2 ^ 64 - 1) }
-{
-    let mut sum: u64 = 0;
-    for row in rows {
-        sum = sum.saturating_add(free_amount(row, asset));
+    /// By how much the greater of the deal's sums rises with the hold.
+    pub(crate) fn rise(&self, hold: &HoldRow) -> u64
+        ensures { result ≡ rise (commit_noted self.now hold.now.deal hold.now.asset)
+            (abort_noted self.now hold.now.deal hold.now.asset) hold.now }
+    {
+        let key = (hold.deal, hold.asset);
+        let commit = self.commits.at(&key);
+        let abort = self.aborts.at(&key);
+        let greater = commit
+            .saturating_add(hold.commit)
+            .max(abort.saturating_add(hold.abort));
+        greater - commit.max(abort)
     }
-    sum
-}
 
-/// What the holds of the deal are together on commit.
-pub(crate) fn commit_sum(rows: &[HoldRow], deal: &Id, asset: &Name) -> u64
-    ensures { result ≡ min (sum_by (hold_commit deal.now asset.now) rows.now) (2 ^ 64 - 1) }
-{
-    let mut sum: u64 = 0;
-    for row in rows {
-        sum = sum.saturating_add(commit_amount(row, deal, asset));
+    /// Makes room for the asset's total.
+    pub(crate) fn make_room(&mut self, asset: &Name) -> Result<(), AllocError>
+        ensures ok { OnOk result (IsTrue (has_total self.new asset.now)) }
+        ensures same { NoteTheSame self.old self.new }
+    {
+        self.totals.make_room(*asset)
     }
-    sum
-}
 
-/// What the holds of the deal are together on abort.
-pub(crate) fn abort_sum(rows: &[HoldRow], deal: &Id, asset: &Name) -> u64
-    ensures { result ≡ min (sum_by (hold_abort deal.now asset.now) rows.now) (2 ^ 64 - 1) }
-{
-    let mut sum: u64 = 0;
-    for row in rows {
-        sum = sum.saturating_add(abort_amount(row, deal, asset));
+    /// Makes room for the sums that the hold adds to.
+    pub(crate) fn make_hold_room(&mut self, hold: &HoldRow) -> Result<(), AllocError>
+        ensures ok { OnOk result (IsTrue (has_hold self.new hold.now)) }
+        ensures same { NoteTheSame self.old self.new }
+    {
+        self.totals.make_room(hold.asset)?;
+        self.commits.make_room((hold.deal, hold.asset))?;
+        self.aborts.make_room((hold.deal, hold.asset))
     }
-    sum
-}
 
-/// What the deal holds of the asset at most, while it isn't settled.
-fn open_amount(known: &KnownDeal, holds: &[HoldRow], asset: &Name) -> u64
-    ensures { result ≡ min (most_if_open known.now holds.now asset.now) (2 ^ 64 - 1) }
-{
-    if known.outcome.is_some() {
-        return 0;
+    /// Sets the asset's total.
+    pub(crate) fn set_total(&mut self, asset: &Name, total: u64)
+        requires { IsTrue (has_total self.old asset.now) }
+        ensures { NotesTotal self.old self.new asset.now total }
+    {
+        self.totals.set(asset, total);
     }
-    let commits = commit_sum(holds, &known.deal, asset);
-    let aborts = abort_sum(holds, &known.deal, asset);
-    if commits < aborts { aborts } else { commits }
-}
 
-/// What the deals that aren't settled hold of the asset at most.
-pub(crate) fn open_sum(deals: &[KnownDeal], holds: &[HoldRow], asset: &Name) -> u64
-    ensures { result
-        ≡ min (sum_by (λ known. most_if_open known holds.now asset.now) deals.now) (2 ^ 64 - 1) }
-{
-    let mut sum: u64 = 0;
-    for known in deals {
-        sum = sum.saturating_add(open_amount(known, holds, asset));
+    /// Adds the hold to its deal's sums, and sets the total of its asset.
+    pub(crate) fn note_hold(&mut self, hold: &HoldRow, total: u64)
+        requires { IsTrue (has_hold self.old hold.now) }
+        ensures { NotesHold self.old self.new hold.now total }
+    {
+        let key = (hold.deal, hold.asset);
+        let commit = self.commits.at(&key).saturating_add(hold.commit);
+        let abort = self.aborts.at(&key).saturating_add(hold.abort);
+        self.totals.set(&hold.asset, total);
+        self.commits.set(&key, commit);
+        self.aborts.set(&key, abort);
     }
-    sum
 }
