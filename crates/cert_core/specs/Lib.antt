@@ -1,3 +1,5 @@
 pub mod Sets
+pub mod Quorums
 pub mod SetReading
 pub mod SetFaults
+pub mod QuorumFaults

@@ -35,6 +35,7 @@ impl Model for Set {
 
 impl Set {
     ghost use Rattle.cert_core.specs.Sets.{HasSeats};
+    ghost use Rattle.cert_core.specs.Quorums.{quorum_size};
 
     /// The accounts of the seats.
     pub fn accounts(&self) -> &[Id]
@@ -42,5 +43,12 @@ impl Set {
         ensures kept { HasSeats self.now }
     {
         &self.seats[..3 * self.f as usize + 1]
+    }
+
+    /// How many seats are a quorum: of two quorums one seat in common complies.
+    pub fn quorum_size(&self) -> u16
+        ensures { result ≡ quorum_size self.now }
+    {
+        2 * self.f + 1
     }
 }

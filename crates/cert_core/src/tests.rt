@@ -1,5 +1,7 @@
 //! The ids were computed outside, by a program of its own.
 
+mod quorums;
+
 use super::*;
 use dh_base::Id;
 use std::alloc::Global;

@@ -1,6 +1,8 @@
 -- The answers of a check exclude one another.
-use Rattle.std.proofs.Common.{◌≡◌, ℕ, ◌+◌, ◌*◌, ◌<◌, ◌≤◌, List, [], length, get_or, take, drop, Result, Ok, Err, refl, sym, ap, subst, ◌∙◌, arith}
+use Rattle.std.proofs.Common.{◌≡◌, ℕ, ◌+◌, ◌*◌, ◌<◌, ◌≤◌, Bool, true, false, cond, nat_le, List, [], length, get_or, take, drop, Result, Ok, Err, refl, sym, ap, subst, ◌∙◌, arith}
 use Rattle.std.specs.Prelude.{◌↔◌}
+use Rattle.std.proofs.lemmas.Bool.{lt-leb, le-leb}
+use Rattle.std.proofs.lemmas.Slice.Eq.{bytes_eq-Decides}
 use Rattle.sha2.specs.Sha256.{sha256}
 use Rattle.dh_base.specs.Fields.{AreBytes}
 use Rattle.ots_core.specs.Validity.{IsOtsValid}
@@ -10,7 +12,7 @@ use Rattle.key_ring.specs.declared.env_fault.EnvFault.{EnvFault}
 use Rattle.key_ring.specs.declared.env_fault.EnvFault.TheVariants.{BadForm, BadRing, KeyOutside, BadSignature, NoMemory}
 use Rattle.key_ring.specs.Rings.{Ring, ring_size_of, ring_of}
 use Rattle.key_ring.specs.Saying.{HasRing, IsSignedBy, Says, IsKeyOutside, IsBadlySigned}
-use Rattle.key_ring.specs.Answering.{IsAnswer}
+use Rattle.key_ring.specs.Answering.{IsAnswer, is_signed_by, said_with, said_of}
 use Rattle.key_ring.proofs.RingTexts.{ring_of-text, sized, ring_in, text-ring_in, count-in, ident-in, key-in}
 
 abbrev read : Ring → Result Ring ℕ
@@ -100,6 +102,43 @@ outside_both env r a q n = (λ e. subst (IsAnswer env) e a, outside_back env r q
 
 pub bad_both : (env : Envelope) (r : Result Said EnvFault) → IsAnswer env r → (r ≡ Err BadSignature) ↔ IsBadlySigned env
 bad_both env r a = (λ e. subst (IsAnswer env) e a, bad_back env r a)
+
+-- ---- the answer as it is computed
+
+-- what is said of a ring that is known
+with_ring : (env : Envelope) (h : HasRing env) → said_of env ≡ said_with env (read h.ring)
+with_ring env h = ap (said_with env) (told env h)
+
+key_stands : (env : Envelope) (ring : Ring) (signed : Bool) → env.q < length ring.keys → is_signed_by ring env ≡ signed → said_with env (read ring) ≡ cond signed (Ok (record { account = record { 0 = sha256 env.ring }; q = env.q })) (Err BadSignature)
+key_stands env ring signed key is = rw (lt-leb (length ring.keys) env.q key, is) refl
+
+is_signed : (env : Envelope) (ring : Ring) → IsSignedBy ring env → is_signed_by ring env ≡ true
+is_signed env ring signed = (bytes_eq-Decides _ _).1 signed
+
+not_signed : (env : Envelope) (ring : Ring) → (IsSignedBy ring env → ⊥) → is_signed_by ring env ≡ false
+not_signed env ring unsigned = here (is_signed_by ring env) refl
+  where
+    here : (b : Bool) → is_signed_by ring env ≡ b → b ≡ false
+    here true e = absurd (unsigned ((bytes_eq-Decides _ _).0 e))
+    here false e = refl
+
+said_same : (env : Envelope) (said : Said) (account : List ℕ) → said.account.0 ≡ account → said.q ≡ env.q → record { account = record { 0 = account }; q = env.q } ≡ said
+said_same env said account a q = ap (λ (b : List ℕ). record { account = record { 0 = b }; q = env.q }) (sym a) ∙ ap (λ (k : ℕ). record { account = said.account; q = k }) (sym q)
+
+outside_told : (env : Envelope) (ring : Ring) (q n : ℕ) → nat_le (length ring.keys) env.q ≡ true → q ≡ env.q → n ≡ length ring.keys → said_with env (read ring) ≡ Err (KeyOutside q n)
+outside_told env ring q n out a b = rw out (ap (λ (k : ℕ). Err (KeyOutside k (length ring.keys))) (sym a) ∙ ap (λ (k : ℕ). Err (KeyOutside q k)) (sym b))
+
+pub answer_is : (env : Envelope) (r : Result Said EnvFault) → IsAnswer env r → r ≡ said_of env
+answer_is env (Ok said) a =
+    sym (with_ring env a.has ∙ key_stands env a.has.ring true (let k = a.key in let q = a.q_is in omega (arith, k, q)) (is_signed env a.has.ring a.signed) ∙ ap (λ (s : Said). Ok s) (said_same env said (sha256 env.ring) a.account_is a.q_is))
+answer_is env (Err (BadForm at)) a = absurd a
+answer_is env (Err (BadRing at)) a = sym (ap (said_with env) a)
+answer_is env (Err (KeyOutside q n)) a =
+    let out : nat_le (length a.has.ring.keys) env.q ≡ true = le-leb (length a.has.ring.keys) env.q (let o = a.outside in let q = a.q_is in let n = a.n_is in omega (arith, o, q, n)) in
+    sym (with_ring env a.has ∙ outside_told env a.has.ring q n out a.q_is a.n_is)
+answer_is env (Err BadSignature) a =
+    sym (with_ring env a.has ∙ key_stands env a.has.ring false a.key (not_signed env a.has.ring a.not_signed))
+answer_is env (Err NoMemory) a = absurd a
 
 -- ---- what is known where a check ends
 

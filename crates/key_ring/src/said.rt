@@ -3,7 +3,7 @@
 ghost use Rattle.std.specs.Prelude.{◌≡◌, ◌↔◌, ◌<◌, ◌^◌, ℕ, length, Ok, Err};
 ghost use Rattle.key_ring.specs.Rings.{ring_of};
 ghost use Rattle.key_ring.specs.Saying.{Says, IsKeyOutside, IsBadlySigned};
-ghost use Rattle.key_ring.specs.Answering.{IsAnswer};
+ghost use Rattle.key_ring.specs.Answering.{IsAnswer, said_of};
 ghost use Rattle.key_ring.specs.declared.said.Said.{Said};
 
 use crate::env_fault::EnvFault;
@@ -57,6 +57,7 @@ pub fn check(env: &Envelope) -> Result<Said, EnvFault>
     ensures key_outside { (q n : ℕ) → (result ≡ Err (EnvFault.KeyOutside q n))
         ↔ IsKeyOutside env.now q n }
     ensures bad_signature { (result ≡ Err EnvFault.BadSignature) ↔ IsBadlySigned env.now }
+    ensures exact { result ≡ said_of env.now }
 {
     answer(env)
 }
