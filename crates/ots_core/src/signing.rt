@@ -3,10 +3,11 @@
 ghost use Rattle.std.specs.Prelude.{◌≡◌};
 ghost use Rattle.ots_core.specs.Keys as keys;
 
-use crate::chain::{CHAINS, SECRET, chain, secret_element};
-use crate::coefficients::{coefficient, with_checksum};
+use crate::chain::SECRET;
+use crate::coefficients::{coefficients, with_checksum};
 use crate::hashing::{hash_at, hasher};
 use crate::ots_sig::OtsSig;
+use crate::walks::{Ways, secret_elements, walk};
 use sha2::{Digest, Sha256};
 
 /// D_MESG: the kind of the text of which a message digest is the hash.
@@ -32,11 +33,10 @@ pub fn sign(seed: &[u8; 32], ident: &[u8; 16], q: u32, msg: &[u8]) -> OtsSig
 {
     let c = hash_at(ident, q, RANDOMIZER, SECRET, seed);
     let text = with_checksum(&message_digest(ident, q, &c, msg));
-    let mut y = [[0; 32]; 67];
-    for i in 0..CHAINS {
-        let start = secret_element(seed, ident, q, i);
-        let count = coefficient(&text, i as usize);
-        y[i as usize] = chain(ident, q, i, 0, count, start);
-    }
+    let ways = Ways {
+        from: [0; 67],
+        to: coefficients(&text),
+    };
+    let y = walk(ident, q, &ways, &secret_elements(seed, ident, q));
     OtsSig { c, y }
 }
