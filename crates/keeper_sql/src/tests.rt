@@ -1,31 +1,32 @@
-//! Small batches, worked out by hand.
+//! Small batches and databases, worked out by hand.
+
+mod adopting;
+mod batches;
 
 use crate::SqlKeeper;
-use keeper_core::{Batch, KeepFault, Keeper};
+use dh_base::List;
+use keeper_core::{Batch, KeepFault, Keeper, Row};
+use sqlite::{Connection, Error, MemStore};
+use std::alloc::Global;
 use std::test::Fail;
 
-#[test]
-fn a_batch_over_memory(rt: HostRuntime) -> Result<(), Fail> {
-    let alloc = rt.alloc();
-    let mut faults = 3;
-    let mut keeper = SqlKeeper::in_memory(alloc, &mut faults)?;
-    let mut first = Batch::new(alloc);
-    first.put(2, b"j", b"1")?;
-    keeper.commit(&first)?;
+/// A database in memory on which the statements were run.
+fn made(alloc: Global, sql: &str) -> Result<Connection<MemStore>, Error> {
+    let mut conn = Connection::open_in_memory(alloc)?;
+    conn.execute_batch(sql)?;
+    Ok(conn)
+}
+
+/// The batch that puts these bytes at a key of table 2.
+fn one_put(alloc: Global, key: &[u8], val: &[u8]) -> Result<Batch, KeepFault> {
     let mut batch = Batch::new(alloc);
-    batch.put(2, b"k", b"a")?;
-    batch.put(2, b"k", b"b")?;
-    batch.del(2, b"j")?;
-    batch.put(2, b"", b"empty")?;
-    batch.put(3, b"k", b"far")?;
-    keeper.commit(&batch)?;
-    let rows = keeper.scan(2)?;
-    let rows = rows.as_slice();
-    assert_eq!(rt; rows.len(), 2);
-    assert_eq!(rt; rows[0].key.as_slice(), b"".as_slice());
-    assert_eq!(rt; rows[1].key.as_slice(), b"k".as_slice());
-    assert_eq!(rt; rows[1].val.as_slice(), b"b".as_slice());
-    let none = keeper.get(2, b"j")?;
-    assert!(rt; none.is_none());
-    Ok(())
+    batch.put(2, key, val)?;
+    Ok(batch)
+}
+
+/// Whether the rows are these, in this order.
+fn are(rows: &[Row], wanted: &[(&[u8], &[u8])]) -> bool {
+    rows.len() == wanted.len()
+        && rows.iter().zip(wanted).all(|(row, (key, val))| row.key.as_slice() == *key
+            && row.val.as_slice() == *val)
 }
