@@ -5,6 +5,7 @@
 //! - `changes`: the changes of a batch, made in one transaction
 //! - `reads`: what is read of the table
 //! - `sql_keeper`: the keeper
+//! - `sql_store`: a store of keepers over files
 //! - `statements`: the statements that a keeper runs
 #![tactic(auto)]
 
@@ -12,9 +13,11 @@ mod adoption;
 mod changes;
 mod reads;
 pub mod sql_keeper;
+pub mod sql_store;
 mod statements;
 
 pub use sql_keeper::SqlKeeper;
+pub use sql_store::SqlStore;
 
 #[cfg(test)]
 mod tests;

@@ -32,7 +32,7 @@ pub struct SqlKeeper<S: Alter> {
 }
 
 /// What a call refuses where the database refuses it. All but want of memory is counted.
-fn refusal(error: Error, faults: &mut u64) -> KeepFault
+pub(crate) fn refusal(error: Error, faults: &mut u64) -> KeepFault
     ensures failed { result ≡ KeepFault.Failed → HasRisen faults.old faults.new }
     ensures no_memory { result ≡ KeepFault.NoMemory → faults.new ≡ faults.old }
     ensures count { faults.old ≤ faults.new }

@@ -2,6 +2,7 @@
 
 mod adopting;
 mod batches;
+mod files;
 
 use crate::SqlKeeper;
 use dh_base::List;
