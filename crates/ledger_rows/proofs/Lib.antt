@@ -1,0 +1,4 @@
+pub mod RowReads
+pub mod ReadValues
+pub mod ValuesSpelled
+pub mod KeysSpelled

@@ -1,0 +1,6 @@
+pub mod RowKeys
+pub mod RowValues
+pub mod RowReading
+pub mod RowChanges
+pub mod Entries
+pub mod LedgerTables

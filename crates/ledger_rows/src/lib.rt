@@ -1,0 +1,36 @@
+//! The rows that a ledger keeps: of each table how keys and values are spelled, what they stand
+//! for, and what a keeper is asked for to read them and to change them.
+//!
+//! - `tables`: the numbers of the tables
+//! - `keys`: the keys of rows
+//! - `changes`: changes to rows, as parts of a batch
+//! - `free_amount`, `registration`, `hold`, `move_count`, `used_key`, `entry`: the values of rows,
+//!   a type for each table
+//! - `row_value`: what the values of all tables have in common, and reading a row
+#![tactic(auto)]
+
+pub mod changes;
+pub mod entry;
+mod fields;
+pub mod free_amount;
+pub mod hold;
+pub mod keys;
+pub mod laws;
+pub mod move_count;
+pub mod registration;
+pub mod row_value;
+pub mod tables;
+pub mod used_key;
+
+pub use changes::{put_entry, put_free, put_hold, put_moves, put_registration, put_used};
+pub use entry::Entry;
+pub use free_amount::FreeAmount;
+pub use hold::Hold;
+pub use move_count::MoveCount;
+pub use registration::Registration;
+pub use row_value::{RowValue, read_row};
+pub use tables::{DEAL_TAB, ENTRY_TAB, FREE_TAB, HOLD_TAB, MOVES_TAB, USED_TAB};
+pub use used_key::UsedKey;
+
+#[cfg(test)]
+mod tests;
