@@ -1,6 +1,9 @@
 -- A vector of eight lanes as a list, and what an operation on vectors is in a lane.
-use Rattle.std.proofs.Common.{◌≡◌, ℕ, ◌<◌, ◌-◌, ◌*◌, ◌/◌, ◌%◌, ◌^◌, List, length, slice_index, replicate, bit_and, bit_or, bit_xor, arith, refl, ap, ◌∙◌, Fits}
-use Rattle.std.proofs.lemmas.Simd.{get_or-zip2, length-zip2, get_or-replicate, length-replicate, Each1-get_or}
+use Rattle.std.proofs.Common.{◌≡◌, Bool, false, cond, map, ◌≤◌, ℕ, ◌<◌, ◌-◌, ◌*◌, ◌/◌, ◌%◌, ◌^◌, List, length, slice_index, replicate, bit_and, bit_or, bit_xor, arith, refl, ap, ◌∙◌, Fits}
+use Rattle.std.proofs.lemmas.Simd.{get_or-zip2, length-zip2, get_or-replicate, length-replicate, Each1-get_or, tops_compared, get_or-sel_l}
+use Rattle.std.proofs.lemmas.Bool.{lt-ltb, le-ltb}
+use Rattle.std.proofs.Math.Dec.{ltb}
+use lib.Lanes.{sel_l, top}
 use Rattle.std.specs.Simd.Lanes.{zip2, Each1}
 use Rattle.std.specs.Int.{w32, rotate_right}
 use Rattle.sha2.specs.Sha256.{add32, ch, maj}
@@ -52,6 +55,10 @@ pub shift_lanes : (x : List ℕ) (k : ℕ) → length x ≡ 8 → k < 32 → (j 
     → slice_index (zip2 (λ a n. a / 2 ^ n) x (replicate 8 k)) j ≡ slice_index x j / 2 ^ k
 shift_lanes x k lx lt32 j lt = splat_at (λ a n. a / 2 ^ n) x k j lx lt
 
+pub shift_left_lanes : (x : List ℕ) (k : ℕ) → length x ≡ 8 → k < 32 → (j : ℕ) → j < 8
+    → slice_index (zip2 (λ a n. a * 2 ^ n % 2 ^ 32) x (replicate 8 k)) j ≡ slice_index x j * 2 ^ k % 2 ^ 32
+shift_left_lanes x k lx lt32 j lt = splat_at (λ a n. a * 2 ^ n % 2 ^ 32) x k j lx lt
+
 -- two shifts of each lane and an or are a rotation
 pub rotate_lanes : (x : List ℕ) (k : ℕ) → length x ≡ 8 → 0 < k → k < 32 → (j : ℕ) → j < 8
     → slice_index (zip2 bit_or (zip2 (λ a n. a / 2 ^ n) x (replicate 8 k)) (zip2 (λ a n. a * 2 ^ n % 2 ^ 32) x (replicate 8 (32 - k)))) j ≡ rotate_right w32 (slice_index x j) k
@@ -65,3 +72,21 @@ rotate_lanes x k lx low high j lt =
 -- the order in which the parts of T 1 are added
 pub temp1_order : (h s c k w : ℕ) → add32 (add32 (add32 (add32 h k) w) c) s ≡ add32 (add32 (add32 (add32 h s) c) k) w
 temp1_order h s c k w = omega arith
+
+-- the choice by a comparison of lanes
+module _ (at end first second : List ℕ) (la : length at ≡ 8) (le : length end ≡ 8) (lf : length first ≡ 8) (ls : length second ≡ 8) where
+  chosen_at : (j : ℕ) → j < 8 → slice_index (sel_l (map (top 31) (zip2 (λ a b. cond (ltb a b) 4294967295 0) at end)) first second) j
+      ≡ cond (ltb (slice_index at j) (slice_index end j)) (slice_index first j) (slice_index second j)
+  chosen_at j lt =
+      let tests = length-zip2 ltb at end (omega arith) in
+      rw (tops_compared w32 ltb at end)
+      (get_or-sel_l (zip2 ltb at end) first second j 0 (omega arith) (omega arith) (omega arith)
+      ∙ ap (λ (b : Bool). cond b (slice_index first j) (slice_index second j)) (get_or-zip2 ltb at end j 0 0 false (omega arith) (omega arith)))
+
+  pub chosen_below : (j : ℕ) → j < 8 → slice_index at j < slice_index end j
+      → slice_index (sel_l (map (top 31) (zip2 (λ a b. cond (ltb a b) 4294967295 0) at end)) first second) j ≡ slice_index first j
+  chosen_below j lt low = chosen_at j lt ∙ rw (lt-ltb (slice_index at j) (slice_index end j) low) refl
+
+  pub chosen_else : (j : ℕ) → j < 8 → slice_index end j ≤ slice_index at j
+      → slice_index (sel_l (map (top 31) (zip2 (λ a b. cond (ltb a b) 4294967295 0) at end)) first second) j ≡ slice_index second j
+  chosen_else j lt high = chosen_at j lt ∙ rw (le-ltb (slice_index at j) (slice_index end j) high) refl

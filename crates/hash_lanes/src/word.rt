@@ -1,6 +1,6 @@
 //! The operations of SHA-256 on words, in each of eight lanes.
 
-ghost use Rattle.std.specs.Prelude.{◌≡◌, ℕ, ◌<◌, ◌+◌, ◌/◌, ◌^◌, bit_xor, slice_index};
+ghost use Rattle.std.specs.Prelude.{◌≡◌, ℕ, ◌<◌, ◌+◌, ◌*◌, ◌/◌, ◌%◌, ◌^◌, bit_xor, slice_index};
 ghost use Rattle.std.specs.Int.{w32, rotate_right};
 ghost use Rattle.sha2.specs.Sha256 as specs;
 
@@ -28,6 +28,14 @@ pub(crate) fn shift_right(x: u32x8, k: u32) -> u32x8
     ensures { (j : ℕ) → j < 8 → slice_index result j ≡ slice_index x j / 2 ^ k }
 {
     x >> u32x8::splat(k)
+}
+
+#[inline(always)]
+pub(crate) fn shift_left(x: u32x8, k: u32) -> u32x8
+    requires { k < 32 }
+    ensures { (j : ℕ) → j < 8 → slice_index result j ≡ slice_index x j * 2 ^ k % 2 ^ 32 }
+{
+    x << u32x8::splat(k)
 }
 
 /// Each lane turned right by `k` bits.

@@ -1,18 +1,20 @@
 -- Walks on all chains of a key: the numbers of the steps at which each begins and ends are `from`
 -- and `to`.
-use Rattle.std.specs.Prelude.{ℕ, ◌≡◌, ◌≢◌, ◌<◌, ◌≤◌, ◌+◌, ◌*◌, ◌-◌, List, [], slice_index, slice_index_or}
+use Rattle.std.specs.Prelude.{ℕ, ◌≡◌, ◌≢◌, ◌<◌, ◌≤◌, ◌+◌, ◌*◌, ◌-◌, List, [], ◌++◌, slice_index, slice_index_or}
+use Rattle.std.specs.Int.{w32, to_be_bytes}
+use Rattle.hash_lanes.specs.Texts.{IsStem}
 use Rattle.ots_core.specs.Chains.{chain}
+use Rattle.ots_core.specs.declared.key.Key.{Key}
+
+-- the stem is that of the texts which are hashed at the steps of the key's chains
+abbrev pub IsKey : Key → Type 0
+IsKey key = IsStem key.stem (key.ident ++ to_be_bytes w32 key.q)
 
 -- each goes forward, by at most 15 steps, of which each is a byte
 pub record AreWays (from to : List ℕ) : Type 0 where
   pub forward : (i : ℕ) → i < 67 → slice_index from i ≤ slice_index to i
   pub few : (i : ℕ) → i < 67 → slice_index to i ≤ slice_index from i + 15
   pub bytes : (i : ℕ) → i < 67 → slice_index to i ≤ 256
-
--- the same of eight
-pub record AreEightWays (from to : List ℕ) : Type 0 where
-  pub forward : (j : ℕ) → j < 8 → slice_index from j ≤ slice_index to j
-  pub bytes : (j : ℕ) → j < 8 → slice_index to j ≤ 256
 
 -- where a chain stands in the order of their steps, and of their numbers where these are as many
 abbrev pub place_of : List ℕ → List ℕ → ℕ → ℕ

@@ -10,7 +10,7 @@ use crate::part::write_part;
 use sha2::{Digest, Sha256};
 
 /// The bytes from which a step of a chain or a secret element is hashed.
-pub(crate) fn text_at(ident: &[u8; 16], q: u32, i: u16, byte: u8, value: &[u8; 32]) -> [u8; 55]
+fn text_at(ident: &[u8; 16], q: u32, i: u16, byte: u8, value: &[u8; 32]) -> [u8; 55]
     ensures { result ≡ ident.now ++ to_be_bytes w32 q ++ to_be_bytes w16 i ++ (byte ∷ value.now) }
 {
     let mut text = [0; 55];

@@ -5,13 +5,14 @@
 //!   signature is valid.
 //! - `ots_sig`, `sig_fault`: a signature and its bytes, and why bytes are none.
 //! - `walks`, `side_by_side`: walks on all chains of a key, eight chains at once.
-//! - `chain`, `coefficients`, `hashing`, `part`: what these stand on.
+//! - `chain`, `coefficients`, `hashing`, `key`, `part`: what these stand on.
 //! - `laws`: laws of signatures.
 #![tactic(auto)]
 
 mod chain;
 mod coefficients;
 mod hashing;
+mod key;
 mod key_generation;
 pub mod laws;
 pub mod ots_sig;

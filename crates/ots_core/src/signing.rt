@@ -6,6 +6,7 @@ ghost use Rattle.ots_core.specs.Keys as keys;
 use crate::chain::SECRET;
 use crate::coefficients::{coefficients, with_checksum};
 use crate::hashing::{hash_at, hasher};
+use crate::key::Key;
 use crate::ots_sig::OtsSig;
 use crate::walks::{Ways, secret_elements, walk};
 use sha2::{Digest, Sha256};
@@ -37,6 +38,7 @@ pub fn sign(seed: &[u8; 32], ident: &[u8; 16], q: u32, msg: &[u8]) -> OtsSig
         from: [0; 67],
         to: coefficients(&text),
     };
-    let y = walk(ident, q, &ways, &secret_elements(seed, ident, q));
+    let key = Key::new(ident, q);
+    let y = walk(&key, &ways, &secret_elements(seed, &key));
     OtsSig { c, y }
 }

@@ -6,6 +6,7 @@ ghost use Rattle.ots_core.specs.Keys as keys;
 
 use crate::chain::{STEPS, ends_hash};
 use crate::coefficients::{coefficients, with_checksum};
+use crate::key::Key;
 use crate::ots_sig::OtsSig;
 use crate::signing::message_digest;
 use crate::walks::{Ways, walk};
@@ -19,7 +20,7 @@ fn candidate(ident: &[u8; 16], q: u32, msg: &[u8], sig: &OtsSig) -> [u8; 32]
         from: coefficients(&text),
         to: [STEPS; 67],
     };
-    ends_hash(ident, q, &walk(ident, q, &ways, &sig.y))
+    ends_hash(ident, q, &walk(&Key::new(ident, q), &ways, &sig.y))
 }
 
 /// Whether the signature of the message is valid under the public key `k`.

@@ -4,9 +4,10 @@
 ghost use Rattle.std.specs.Prelude.{◌≡◌, ℕ, List, [], ◌<◌, ◌≤◌, ◌+◌, ◌*◌, slice_index, slice_index_or};
 ghost use Rattle.ots_core.specs.Chains as specs;
 ghost use Rattle.ots_core.specs.Keys as keys;
-ghost use Rattle.ots_core.specs.Walks.{AreWays, IsUnderWay};
+ghost use Rattle.ots_core.specs.Walks.{AreWays, IsKey, IsUnderWay};
 
 use crate::chain::{CHAINS, SECRET, STEPS};
+use crate::key::Key;
 use crate::side_by_side::{Eight, walk_eight};
 
 /// Secret elements are made as the step with this number is taken.
@@ -30,20 +31,19 @@ struct Group {
 /// The ways of eight chains.
 fn eight_of(ways: &Ways, chains: &[u16; 8]) -> Eight
     requires { (j : ℕ) → j < 8 → slice_index chains.now j < 67 }
-    ensures chains { result.chains ≡ chains.now }
-    ensures from { (j : ℕ) → j < 8 →
-        slice_index result.from j ≡ slice_index ways.now.from (slice_index chains.now j) }
-    ensures to { (j : ℕ) → j < 8 →
-        slice_index result.to j ≡ slice_index ways.now.to (slice_index chains.now j) }
+    ensures from { (j : ℕ) → j < 8 → slice_index result.from j
+        ≡ 256 * slice_index chains.now j + slice_index ways.now.from (slice_index chains.now j) }
+    ensures to { (j : ℕ) → j < 8 → slice_index result.to j
+        ≡ 256 * slice_index chains.now j + slice_index ways.now.to (slice_index chains.now j) }
 {
     let mut eight = Eight {
-        chains: *chains,
         from: [0; 8],
         to: [0; 8],
     };
     for j in 0..8 {
-        eight.from[j] = ways.from[chains[j] as usize];
-        eight.to[j] = ways.to[chains[j] as usize];
+        let chain = chains[j] as usize;
+        eight.from[j] = 256 * u32::from(chains[j]) + u32::from(ways.from[chain]);
+        eight.to[j] = 256 * u32::from(chains[j]) + u32::from(ways.to[chain]);
     }
     eight
 }
@@ -62,15 +62,9 @@ fn values_of(values: &[[u8; 32]; 67], chains: &[u16; 8]) -> [[u8; 32]; 8]
 }
 
 /// Walks the chains that wait, which have no more steps than that, and lets none wait.
-fn walk_group(
-    ident: &[u8; 16],
-    q: u32,
-    ways: &Ways,
-    steps: u16,
-    group: &mut Group,
-    values: &mut [[u8; 32]; 67],
-)
+fn walk_group(key: &Key, ways: &Ways, steps: u16, group: &mut Group, values: &mut [[u8; 32]; 67])
     requires steps { steps ≤ 15 }
+    requires key { IsKey key.now }
     requires ways { AreWays ways.now.from ways.now.to }
     requires places { group.old.count ≤ 8 }
     requires chains { (j : ℕ) → j < 8 → slice_index group.old.chains j < 67 }
@@ -78,13 +72,13 @@ fn walk_group(
     ensures none { group.new.count ≡ 0 }
     ensures chains { group.new.chains ≡ group.old.chains }
     ensures under_way { (before : List (List ℕ)) (seen : ℕ) → seen ≤ 67 * (steps + 1)
-        → IsUnderWay ident.now q ways.now.from ways.now.to before seen
+        → IsUnderWay key.now.ident key.now.q ways.now.from ways.now.to before seen
         group.old.chains group.old.first group.old.count values.old
-        → IsUnderWay ident.now q ways.now.from ways.now.to before seen
+        → IsUnderWay key.now.ident key.now.q ways.now.from ways.now.to before seen
         group.new.chains group.new.first group.new.count values.new }
 {
     let start = values_of(values, &group.chains);
-    let ends = walk_eight(ident, q, &eight_of(ways, &group.chains), steps, &start);
+    let ends = walk_eight(key, &eight_of(ways, &group.chains), steps, &start);
     for j in group.first..group.count {
         values[group.chains[j] as usize] = ends[j];
     }
@@ -93,16 +87,9 @@ fn walk_group(
 }
 
 /// Lets a chain wait, and walks the group where it is full.
-fn join(
-    ident: &[u8; 16],
-    q: u32,
-    ways: &Ways,
-    steps: u16,
-    i: u16,
-    group: &mut Group,
-    values: &mut [[u8; 32]; 67],
-)
+fn join(key: &Key, ways: &Ways, steps: u16, i: u16, group: &mut Group, values: &mut [[u8; 32]; 67])
     requires steps { steps ≤ 15 }
+    requires key { IsKey key.now }
     requires ways { AreWays ways.now.from ways.now.to }
     requires chain { i < 67 }
     requires way { slice_index ways.now.to i ≡ slice_index ways.now.from i + steps }
@@ -111,51 +98,46 @@ fn join(
     ensures room { group.new.count < 8 }
     ensures chains { (j : ℕ) → j < 8 → slice_index group.new.chains j < 67 }
     ensures under_way { (before : List (List ℕ)) →
-        IsUnderWay ident.now q ways.now.from ways.now.to before (67 * steps + i)
+        IsUnderWay key.now.ident key.now.q ways.now.from ways.now.to before (67 * steps + i)
         group.old.chains group.old.first group.old.count values.old
-        → IsUnderWay ident.now q ways.now.from ways.now.to before (67 * steps + (i + 1))
+        → IsUnderWay key.now.ident key.now.q ways.now.from ways.now.to before (67 * steps + (i + 1))
         group.new.chains group.new.first group.new.count values.new }
 {
     group.chains[group.count] = i;
     group.count += 1;
     if group.count == 8 {
-        walk_group(ident, q, ways, steps, group, values);
+        walk_group(key, ways, steps, group, values);
     }
 }
 
 /// Lets each chain wait that has so many steps.
-fn join_all(
-    ident: &[u8; 16],
-    q: u32,
-    ways: &Ways,
-    steps: u16,
-    group: &mut Group,
-    values: &mut [[u8; 32]; 67],
-)
+fn join_all(key: &Key, ways: &Ways, steps: u16, group: &mut Group, values: &mut [[u8; 32]; 67])
     requires steps { steps ≤ 15 }
+    requires key { IsKey key.now }
     requires ways { AreWays ways.now.from ways.now.to }
     requires room { group.old.count < 8 }
     requires chains { (j : ℕ) → j < 8 → slice_index group.old.chains j < 67 }
     ensures room { group.new.count < 8 }
     ensures chains { (j : ℕ) → j < 8 → slice_index group.new.chains j < 67 }
     ensures under_way { (before : List (List ℕ)) →
-        IsUnderWay ident.now q ways.now.from ways.now.to before (67 * steps)
+        IsUnderWay key.now.ident key.now.q ways.now.from ways.now.to before (67 * steps)
         group.old.chains group.old.first group.old.count values.old
-        → IsUnderWay ident.now q ways.now.from ways.now.to before (67 * (steps + 1))
+        → IsUnderWay key.now.ident key.now.q ways.now.from ways.now.to before (67 * (steps + 1))
         group.new.chains group.new.first group.new.count values.new }
 {
     for i in 0..CHAINS {
         if ways.to[i as usize] == ways.from[i as usize] + steps {
-            join(ident, q, ways, steps, i, group, values);
+            join(key, ways, steps, i, group, values);
         }
     }
 }
 
 /// The values of all chains at the ends of their ways.
-pub(crate) fn walk(ident: &[u8; 16], q: u32, ways: &Ways, start: &[[u8; 32]; 67]) -> [[u8; 32]; 67]
+pub(crate) fn walk(key: &Key, ways: &Ways, start: &[[u8; 32]; 67]) -> [[u8; 32]; 67]
+    requires key { IsKey key.now }
     requires ways { AreWays ways.now.from ways.now.to }
     ensures { (i : ℕ) → i < 67 → slice_index_or result i []
-        ≡ specs.chain ident.now q i (slice_index ways.now.from i) (slice_index ways.now.to i)
+        ≡ specs.chain key.now.ident key.now.q i (slice_index ways.now.from i) (slice_index ways.now.to i)
         (slice_index_or start.now i []) }
 {
     // The first group has the room that 67 chains leave in nine groups, since it takes the fewest
@@ -167,20 +149,21 @@ pub(crate) fn walk(ident: &[u8; 16], q: u32, ways: &Ways, start: &[[u8; 32]; 67]
     };
     let mut values = *start;
     for steps in 0..STEPS + 1 {
-        join_all(ident, q, ways, steps, &mut group, &mut values);
+        join_all(key, ways, steps, &mut group, &mut values);
     }
-    walk_group(ident, q, ways, STEPS, &mut group, &mut values);
+    walk_group(key, ways, STEPS, &mut group, &mut values);
     values
 }
 
 /// Where the chains begin (appendix A).
-pub(crate) fn secret_elements(seed: &[u8; 32], ident: &[u8; 16], q: u32) -> [[u8; 32]; 67]
+pub(crate) fn secret_elements(seed: &[u8; 32], key: &Key) -> [[u8; 32]; 67]
+    requires { IsKey key.now }
     ensures { (i : ℕ) → i < 67 →
-        slice_index_or result i [] ≡ keys.secret_element seed.now ident.now q i }
+        slice_index_or result i [] ≡ keys.secret_element seed.now key.now.ident key.now.q i }
 {
     let ways = Ways {
         from: [SECRET_STEP; 67],
         to: [SECRET_STEP + 1; 67],
     };
-    walk(ident, q, &ways, &[*seed; 67])
+    walk(key, &ways, &[*seed; 67])
 }

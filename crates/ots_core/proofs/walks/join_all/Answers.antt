@@ -15,7 +15,7 @@ loop-i-preserved c = elim c.if-ways-i.branch [
     room = c.loop-i.invariant.room;
     chains = c.loop-i.invariant.chains;
     under_way = λ before held.
-        passed c.args.ident.now c.args.q c.args.ways.now.from c.args.ways.now.to before c.args.steps c.loop-i.i c.loop-i.group.chains c.loop-i.group.first c.loop-i.group.count c.loop-i.values
+        passed c.args.key.now.ident c.args.key.now.q c.args.ways.now.from c.args.ways.now.to before c.args.steps c.loop-i.i c.loop-i.group.chains c.loop-i.group.first c.loop-i.group.count c.loop-i.values
         (omega arith) (c.requires.ways.forward c.loop-i.i (omega arith)) w.if-ways-i.false (c.loop-i.invariant.under_way before held);
   })
 ]
@@ -23,5 +23,5 @@ loop-i-preserved c = elim c.if-ways-i.branch [
 pub returns-clause-under_way : goal.returns-clause-under_way
 returns-clause-under_way c before held =
     let all : 67 * c.args.steps + c.loop-i.i ≡ 67 * (c.args.steps + 1) = omega arith in
-    subst (λ (n : ℕ). IsUnderWay c.args.ident.now c.args.q c.args.ways.now.from c.args.ways.now.to before n c.loop-i.group.chains c.loop-i.group.first c.loop-i.group.count c.loop-i.values) all
+    subst (λ (n : ℕ). IsUnderWay c.args.key.now.ident c.args.key.now.q c.args.ways.now.from c.args.ways.now.to before n c.loop-i.group.chains c.loop-i.group.first c.loop-i.group.count c.loop-i.values) all
     (c.loop-i.invariant.under_way before held)

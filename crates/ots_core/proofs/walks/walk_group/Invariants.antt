@@ -8,6 +8,6 @@ invariant-loop-j l = record {
   places : length l.values ≡ 67;
   walked : (k : ℕ) → l.group.first ≤ k → k < l.j → place_of l.ways.from l.ways.to (slice_index l.group.chains k) < 67 * (l.steps + 1)
       → slice_index_or l.values (slice_index l.group.chains k) []
-      ≡ chain l.ident l.q (slice_index l.group.chains k) (slice_index l.ways.from (slice_index l.group.chains k)) (slice_index l.ways.to (slice_index l.group.chains k)) (slice_index_or l.fn.values (slice_index l.group.chains k) []);
+      ≡ chain l.key.ident l.key.q (slice_index l.group.chains k) (slice_index l.ways.from (slice_index l.group.chains k)) (slice_index l.ways.to (slice_index l.group.chains k)) (slice_index_or l.fn.values (slice_index l.group.chains k) []);
   others : (i : ℕ) → ((k : ℕ) → l.group.first ≤ k → k < l.j → slice_index l.group.chains k ≢ i) → slice_index_or l.values i [] ≡ slice_index_or l.fn.values i [];
 }

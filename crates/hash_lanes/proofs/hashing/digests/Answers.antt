@@ -1,7 +1,0 @@
-use Rattle.hash_lanes.proofs.Eight.{below_eight}
-use Rattle.hash_lanes.proofs.hashing.digests.Goals as goal
-
-pub returns : goal.returns
-returns c =
-    below_eight _ c.digest.ensures c.digest-2.ensures c.digest-3.ensures c.digest-4.ensures
-    c.digest-5.ensures c.digest-6.ensures c.digest-7.ensures c.digest-8.ensures

@@ -1,0 +1,7 @@
+use Rattle.std.proofs.Common.{◌≡◌, ◌*◌, length, take}
+use Rattle.sha2.specs.Sha256.{digest_bytes}
+use Rattle.hash_lanes.specs.Lanes.{words}
+use Rattle.hash_lanes.proofs.values.bytes_of.Given as goal
+
+abbrev pub invariant-words : goal.invariant-words
+invariant-words l = (length l.bytes ≡ 32) × (take (4 * l.i) l.bytes ≡ digest_bytes (words l.j l.columns) l.i)
