@@ -4,3 +4,4 @@ pub mod RowReading
 pub mod RowChanges
 pub mod Entries
 pub mod LedgerTables
+pub mod ActChanges

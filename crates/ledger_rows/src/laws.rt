@@ -1,5 +1,6 @@
 //! Laws of the rows of a ledger.
 
+ghost use Rattle.ledger_rows.specs.ActChanges.{PaymentStands};
 ghost use Rattle.ledger_rows.specs.RowKeys.{FreeKeysRead, HoldKeysRead, MovesKeysRead, UsedKeysRead};
 ghost use Rattle.ledger_rows.specs.RowValues.{StandsForSpelled, free_in, FreeFits, free_text, registration_in, RegistrationFits, registration_text, hold_in, HoldFits, hold_text, moves_in, MovesFit, moves_text, used_in, UsedFits, used_text, entry_in, EntryFits, entry_text};
 
@@ -19,4 +20,10 @@ pub fn keys_read()
     ensures hold { HoldKeysRead }
     ensures moves { MovesKeysRead }
     ensures used { UsedKeysRead }
+{}
+
+/// Tables that stand for a history stand for it with an accepted payment behind it, once the changes
+/// of the payment are made.
+pub fn payment_stands()
+    ensures { PaymentStands }
 {}

@@ -1,0 +1,81 @@
+-- What the refusals of a ledger tell, and how a call ends by them.
+use Rattle.std.specs.Prelude.{ℕ, List, [], ◌∷◌, codes}
+use Rattle.dh_base.specs.Refusals.{Told, told_of, field_of}
+use Rattle.dh_base.specs.declared.refusal.FieldValue.TheVariants.{Number, Hash, Called, Ending}
+use Rattle.key_ring.specs.EnvFaults.{env_fault_told}
+use Rattle.act_text.specs.ActFaults.{act_fault_told}
+use Rattle.deal_core.specs.DealFaults.{deal_fault_told}
+use Rattle.escrow_book.specs.declared.fault.BookFault.{BookFault}
+use Rattle.escrow_book.specs.declared.fault.BookFault.TheVariants as book
+use Rattle.keeper_core.specs.declared.store_fault.StoreFault.TheVariants.{NoMemory}
+use Rattle.keeper_core.specs.StoreFaults.{store_fault_told}
+use Rattle.keeper_core.specs.Leaving.{Ended, refused, of_store_fault}
+use Rattle.ledger_core.specs.declared.ledger_fault.LedgerFault.{LedgerFault}
+use Rattle.ledger_core.specs.declared.ledger_fault.LedgerFault.TheVariants.{BadEnvelope, BadAct, KeyReused, WrongLedger, BadDeal, WrongHouse, UnknownDeal, NotAParty, DealsFull, DealSettled, WrongTurn, ZeroOrSelf, Short, LedgerFull, Store}
+use Rattle.ledger_core.specs.declared.ask_fault.AskFault.{AskFault}
+use Rattle.ledger_core.specs.declared.ask_fault.AskFault.TheVariants as ask
+use Rattle.ledger_core.specs.declared.open_fault.OpenFault.{OpenFault}
+use Rattle.ledger_core.specs.declared.open_fault.OpenFault.TheVariants as opening
+
+abbrev pub ledger_fault_told : LedgerFault → List Told
+ledger_fault_told (BadEnvelope fault) = told_of 1 (codes "BadEnvelope") [] ∷ env_fault_told fault
+ledger_fault_told (BadAct fault) = told_of 2 (codes "BadAct") [] ∷ act_fault_told fault
+ledger_fault_told (KeyReused kept) =
+    told_of 3 (codes "KeyReused") (field_of (codes "kept") (Hash kept) ∷ []) ∷ []
+ledger_fault_told (WrongLedger named) =
+    told_of 4 (codes "WrongLedger") (field_of (codes "named") (Called named) ∷ []) ∷ []
+ledger_fault_told (BadDeal fault) = told_of 5 (codes "BadDeal") [] ∷ deal_fault_told fault
+ledger_fault_told (WrongHouse named) =
+    told_of 6 (codes "WrongHouse") (field_of (codes "named") (Hash named) ∷ []) ∷ []
+ledger_fault_told UnknownDeal = told_of 7 (codes "UnknownDeal") [] ∷ []
+ledger_fault_told (NotAParty account) =
+    told_of 8 (codes "NotAParty") (field_of (codes "account") (Hash account) ∷ []) ∷ []
+ledger_fault_told (DealsFull held) =
+    told_of 9 (codes "DealsFull") (field_of (codes "held") (Number held) ∷ []) ∷ []
+ledger_fault_told (DealSettled outcome) =
+    told_of 10 (codes "DealSettled") (field_of (codes "outcome") (Ending outcome) ∷ []) ∷ []
+ledger_fault_told (WrongTurn expected) =
+    told_of 11 (codes "WrongTurn") (field_of (codes "expected") (Number expected) ∷ []) ∷ []
+ledger_fault_told ZeroOrSelf = told_of 12 (codes "ZeroOrSelf") [] ∷ []
+ledger_fault_told (Short held) =
+    told_of 13 (codes "Short") (field_of (codes "held") (Number held) ∷ []) ∷ []
+ledger_fault_told (LedgerFull acts) =
+    told_of 14 (codes "LedgerFull") (field_of (codes "acts") (Number acts) ∷ []) ∷ []
+ledger_fault_told (Store fault) = told_of 15 (codes "Store") [] ∷ store_fault_told fault
+
+abbrev pub ask_fault_told : AskFault → List Told
+ask_fault_told ask.UnknownDeal = told_of 1 (codes "UnknownDeal") [] ∷ []
+ask_fault_told (ask.NotAParty account) =
+    told_of 2 (codes "NotAParty") (field_of (codes "account") (Hash account) ∷ []) ∷ []
+ask_fault_told (ask.Store fault) = told_of 3 (codes "Store") [] ∷ store_fault_told fault
+
+abbrev pub open_fault_told : OpenFault → List Told
+open_fault_told (opening.BadOpening row) =
+    told_of 1 (codes "BadOpening") (field_of (codes "row") (Number row) ∷ []) ∷ []
+open_fault_told (opening.OtherOpening kept) =
+    told_of 2 (codes "OtherOpening") (field_of (codes "kept") (Hash kept) ∷ []) ∷ []
+open_fault_told (opening.Store fault) = told_of 3 (codes "Store") [] ∷ store_fault_told fault
+
+-- ---- how a call ended
+
+abbrev pub of_ledger_fault : LedgerFault → Ended
+of_ledger_fault (Store fault) = of_store_fault fault
+of_ledger_fault _ = refused
+
+abbrev pub of_ask_fault : AskFault → Ended
+of_ask_fault (ask.Store fault) = of_store_fault fault
+of_ask_fault _ = refused
+
+abbrev pub of_open_fault : OpenFault → Ended
+of_open_fault (opening.Store fault) = of_store_fault fault
+of_open_fault _ = refused
+
+-- a refusal of the book is the ledger's
+abbrev pub ledger_fault_of : BookFault → LedgerFault
+ledger_fault_of book.UnknownDeal = UnknownDeal
+ledger_fault_of (book.NotAParty account) = NotAParty account
+ledger_fault_of (book.DealSettled outcome) = DealSettled outcome
+ledger_fault_of (book.WrongTurn expected) = WrongTurn expected
+ledger_fault_of book.ZeroOrSelf = ZeroOrSelf
+ledger_fault_of (book.Short held) = Short held
+ledger_fault_of book.NoMemory = Store NoMemory

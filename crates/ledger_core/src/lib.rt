@@ -1,0 +1,12 @@
+//! Ledgers: they keep assets for parties, and take acts in signed envelopes, each once.
+//!
+//! - `ledger_fault`, `ask_fault`, `open_fault`: the refusals
+#![tactic(auto)]
+
+pub mod ask_fault;
+pub mod ledger_fault;
+pub mod open_fault;
+
+pub use ask_fault::AskFault;
+pub use ledger_fault::LedgerFault;
+pub use open_fault::OpenFault;

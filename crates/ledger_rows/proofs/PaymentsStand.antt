@@ -1,0 +1,136 @@
+-- Tables stand for the history with an accepted payment, once its changes are made.
+use Rattle.std.proofs.Common.{◌≡◌, ℕ, ◌+◌, ◌<◌, ◌^◌, ◌&&◌, Bool, true, false, cond, if◌then◌else◌, List, [], ◌∷◌, ◌++◌, map, length, Option, Some, None, Result, Ok, refl, sym, ap, subst, ◌∙◌, arith, IsTrue}
+use Rattle.std.specs.Int.{w64}
+use Rattle.std.specs.Str.{bytes_eq}
+use Rattle.std.specs.FinMap.{get}
+use Rattle.dh_base.specs.declared.id.Id.{Id}
+use Rattle.dh_base.specs.Ids.{same_id}
+use Rattle.dh_base.specs.Names.{is_name}
+use Rattle.act_text.specs.declared.act.Act.{Act}
+use Rattle.act_text.specs.declared.act.Act.TheVariants.{Pay}
+use Rattle.act_text.specs.declared.act_fault.ActFault.{ActFault}
+use Rattle.act_text.specs.declared.office.Office.TheVariants.{Ledger}
+use Rattle.act_text.specs.ActReading.{act_of}
+use Rattle.escrow_book.specs.declared.change.Change.{Change as BookChange}
+use Rattle.escrow_book.specs.declared.change.Change.TheVariants.{Paid}
+use Rattle.escrow_book.specs.Opening.{Row}
+use Rattle.escrow_book.specs.History.{History, with_change, free_of}
+use Rattle.escrow_book.specs.Reached.{IsReached}
+use Rattle.escrow_book.specs.Refused.{pay_refusal}
+use Rattle.escrow_book.proofs.Whole.{grown}
+use Rattle.escrow_book.proofs.Lookups.{settlement_kept}
+use Rattle.escrow_book.proofs.Parts.{free_untouched, if_commit_untouched, if_abort_untouched, moves_untouched}
+use Rattle.keeper_core.specs.declared.change.Change.{Change}
+use Rattle.keeper_core.specs.Tables.{Cell, Tables}
+use Rattle.keeper_core.specs.Batches.{after_batch, after_change}
+use Rattle.keeper_core.specs.NumberedRows.{IsNumbered}
+use Rattle.ledger_rows.specs.declared.entry.Entry.{Entry}
+use Rattle.ledger_rows.specs.declared.entry.Entry.TheVariants.{Act as Accepted}
+use Rattle.ledger_rows.specs.RowKeys.{free_tab, deal_tab, hold_tab, moves_tab, used_tab, entry_tab, free_key, used_key, first_id, asset_in}
+use Rattle.ledger_rows.specs.RowValues.{used_text, entry_text}
+use Rattle.ledger_rows.specs.RowChanges.{free_change, used_change, entry_change}
+use Rattle.ledger_rows.specs.Entries.{registered_by_act, registered_by, book_of}
+use Rattle.ledger_rows.specs.LedgerTables.{free_value, free_row, hold_row, moves_row, deal_row, used_row, StandsFor}
+use Rattle.ledger_rows.specs.ActChanges.{IsNew, act_changes, payment_changes, PaymentStands}
+use Rattle.ledger_rows.proofs.Cells.{same_cell, cell_is, change_at, free_at, picked, same_rows}
+use Rattle.ledger_rows.proofs.RowsKept.{free_row_is, kept_free, apart, kept_hold, kept_moves, kept_deal, used_with, used_here, used_elsewhere, entry_put}
+use Rattle.ledger_rows.proofs.Histories.{one_act_more}
+
+no_payment : (here : Bool) (n : ℕ) → here ≡ false → (if here then n else 0) + 0 ≡ 0
+no_payment false n e = omega arith
+no_payment true n e = absurd cc
+
+module _ (tables : Tables) (opening : List Row) (entries : List Entry) (from : Id) (q : ℕ) (message : List ℕ) (house : Id) (ledger : List ℕ) (to : Id) (asset : List ℕ) (amount : ℕ)
+    (stands : StandsFor tables opening entries) (reached : IsReached (book_of opening entries)) (new : IsNew entries from q) (reads : act_of Ledger message ≡ Ok (Pay house ledger to asset amount))
+    (wide : length to.0 ≡ 32) (named : is_name asset ≡ true) (few : length entries < 2 ^ 63) (none : pay_refusal (book_of opening entries) from to asset amount ≡ None) where
+  abbrev book : History
+  book = book_of opening entries
+
+  abbrev change : BookChange
+  change = Paid from to asset amount
+
+  abbrev later : History
+  later = with_change book change
+
+  abbrev entry : Entry
+  entry = Accepted from q message
+
+  more : book_of opening (entries ++ entry ∷ []) ≡ later
+  more = one_act_more opening entries from q message (Pay house ledger to asset amount) reads
+
+  -- the tables, change by change
+  abbrev one : Tables
+  one = after_change (free_change from asset (free_of later from asset)) tables
+
+  abbrev two : Tables
+  two = after_change (free_change to asset (free_of later to asset)) one
+
+  abbrev used : Change
+  used = used_change from q (used_with (length entries + 1) message)
+
+  abbrev three : Tables
+  three = after_change used two
+
+  abbrev last : Change
+  last = entry_change (length entries + 1) entry
+
+  -- ---- free amounts
+
+  stays : (key : List ℕ) → same_cell (free_tab, key) (free_tab, free_key from asset) ≡ false → same_cell (free_tab, key) (free_tab, free_key to asset) ≡ false → free_row later key ≡ free_row book key
+  stays key not_from not_to = kept_free book later key (λ good.
+      free_untouched book change (first_id key) (asset_in key) (grown book reached) none (no_payment _ amount (apart key from asset good not_from)) (no_payment _ amount (apart key to asset good not_to)))
+
+  at_key : (key : List ℕ) (p : Id) → length p.0 ≡ 32 → same_cell (free_tab, key) (free_tab, free_key p asset) ≡ true → free_value (free_of later p asset) ≡ free_row later key
+  at_key key p w same =
+      let e : key ≡ free_key p asset = ap (λ (c : Cell). c.1) (cell_is (free_tab, key) (free_tab, free_key p asset) same) in
+      sym (free_row_is later p asset w named) ∙ ap (λ (k : List ℕ). free_row later k) (sym e)
+
+  free_two : (key : List ℕ) → get two (free_tab, key) ≡ free_row later key
+  free_two key =
+      free_at to asset (free_of later to asset) one (free_tab, key) ∙ picked _ _ _ _ (λ is. at_key key to wide is)
+      (λ not_to. free_at from asset (free_of later from asset) tables (free_tab, key) ∙ picked _ _ _ _ (λ is. at_key key from new.wide is)
+      (λ not_from. stands.free key ∙ sym (stays key not_from not_to)))
+
+  -- ---- the other tables
+
+  deals_two : (key : List ℕ) → get two (deal_tab, key) ≡ get tables (deal_tab, key)
+  deals_two key = free_at to asset (free_of later to asset) one (deal_tab, key) ∙ free_at from asset (free_of later from asset) tables (deal_tab, key)
+
+  holds_two : (key : List ℕ) → get two (hold_tab, key) ≡ get tables (hold_tab, key)
+  holds_two key = free_at to asset (free_of later to asset) one (hold_tab, key) ∙ free_at from asset (free_of later from asset) tables (hold_tab, key)
+
+  moves_two : (key : List ℕ) → get two (moves_tab, key) ≡ get tables (moves_tab, key)
+  moves_two key = free_at to asset (free_of later to asset) one (moves_tab, key) ∙ free_at from asset (free_of later from asset) tables (moves_tab, key)
+
+  used_two : (key : List ℕ) → get two (used_tab, key) ≡ get tables (used_tab, key)
+  used_two key = free_at to asset (free_of later to asset) one (used_tab, key) ∙ free_at from asset (free_of later from asset) tables (used_tab, key)
+
+  entries_three : (key : List ℕ) → get three (entry_tab, key) ≡ get tables (entry_tab, key)
+  entries_three key = change_at used two (entry_tab, key) ∙ free_at to asset (free_of later to asset) one (entry_tab, key) ∙ free_at from asset (free_of later from asset) tables (entry_tab, key)
+
+  used_three : (key : List ℕ) → get three (used_tab, key) ≡ used_row (entries ++ entry ∷ []) key
+  used_three key =
+      change_at used two (used_tab, key) ∙ picked _ _ _ _
+      (λ is.
+      let e : key ≡ used_key from q = ap (λ (c : Cell). c.1) (cell_is (used_tab, key) (used_tab, used_key from q) is) in
+      sym (used_here entries from q message new.wide new.small new.unused) ∙ ap (λ (k : List ℕ). used_row (entries ++ entry ∷ []) k) (sym e))
+      (λ other. used_two key ∙ stands.used key ∙ sym (used_elsewhere entries from q message key other))
+
+  no_registration : (d : Id) → registered_by d entry ≡ None
+  no_registration d = ap (λ (r : Result Act ActFault). registered_by_act d from r) reads
+
+  pub payment_stands : StandsFor (after_batch (payment_changes from to asset (free_of later from asset) (free_of later to asset) (act_changes (length entries + 1) from q message)) tables) opening (entries ++ entry ∷ [])
+  payment_stands = record {
+    free = λ key. change_at last three (free_tab, key) ∙ change_at used two (free_tab, key) ∙ free_two key ∙ ap (λ (h : History). free_row h key) (sym more);
+    deals = λ key. change_at last three (deal_tab, key) ∙ change_at used two (deal_tab, key) ∙ deals_two key ∙ stands.deals key
+        ∙ sym (kept_deal book later entries entry key no_registration (λ d. settlement_kept book change d refl))
+        ∙ ap (λ (h : History). deal_row h (entries ++ entry ∷ []) key) (sym more);
+    holds = λ key. change_at last three (hold_tab, key) ∙ change_at used two (hold_tab, key) ∙ holds_two key ∙ stands.holds key
+        ∙ sym (kept_hold book later key (λ d p x. (if_commit_untouched book change d p x (omega arith) refl, if_abort_untouched book change d p x refl)))
+        ∙ ap (λ (h : History). hold_row h key) (sym more);
+    moves = λ key. change_at last three (moves_tab, key) ∙ change_at used two (moves_tab, key) ∙ moves_two key ∙ stands.moves key
+        ∙ sym (kept_moves book later key (λ d p. moves_untouched book change d p refl))
+        ∙ ap (λ (h : History). moves_row h key) (sym more);
+    used = λ key. change_at last three (used_tab, key) ∙ used_three key;
+    numbered = entry_put entries entry three few (same_rows entry_tab tables three entries_three ∙ stands.numbered);
+  }

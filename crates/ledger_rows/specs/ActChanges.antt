@@ -1,0 +1,55 @@
+-- The changes of accepted acts to a ledger's tables, and what the tables stand for then.
+use Rattle.std.specs.Prelude.{ℕ, ◌≡◌, ◌+◌, ◌<◌, ◌^◌, List, [], ◌∷◌, ◌++◌, length, None, IsTrue, Ok}
+use Rattle.dh_base.specs.declared.id.Id.{Id}
+use Rattle.dh_base.specs.Names.{is_name}
+use Rattle.act_text.specs.declared.act.Act.TheVariants.{Pay}
+use Rattle.act_text.specs.declared.office.Office.TheVariants.{Ledger}
+use Rattle.act_text.specs.ActReading.{act_of}
+use Rattle.escrow_book.specs.declared.change.Change.TheVariants.{Paid}
+use Rattle.escrow_book.specs.Opening.{Row}
+use Rattle.escrow_book.specs.History.{with_change, free_of}
+use Rattle.escrow_book.specs.Reached.{IsReached}
+use Rattle.escrow_book.specs.Refused.{pay_refusal}
+use Rattle.keeper_core.specs.declared.change.Change.{Change}
+use Rattle.keeper_core.specs.Tables.{Tables}
+use Rattle.keeper_core.specs.Batches.{after_batch}
+use Rattle.ledger_rows.specs.declared.entry.Entry.{Entry}
+use Rattle.ledger_rows.specs.declared.entry.Entry.TheVariants.{Act}
+use Rattle.ledger_rows.specs.RowChanges.{free_change, used_change, entry_change}
+use Rattle.ledger_rows.specs.Entries.{digest_of, book_of, used_of}
+use Rattle.ledger_rows.specs.LedgerTables.{StandsFor}
+
+-- The key has signed the act, which is the entry of that number.
+abbrev pub act_changes : ℕ → Id → ℕ → List ℕ → List Change
+act_changes number account q message =
+    used_change account q (record { at = number; message = digest_of message })
+    ∷ entry_change number (Act account q message) ∷ []
+
+-- The key is of an account's, and has signed no entry.
+pub record IsNew (entries : List Entry) (account : Id) (q : ℕ) : Type 0 where
+  pub wide : length account.0 ≡ 32
+  pub small : q < 2 ^ 32
+  pub unused : used_of entries account q ≡ None
+
+-- what sender and receiver can spend behind a payment, and the act
+abbrev pub payment_changes : Id → Id → List ℕ → ℕ → ℕ → List Change → List Change
+payment_changes from to asset sender receiver act =
+    free_change from asset sender ∷ free_change to asset receiver ∷ act
+
+-- Tables that stand for a history stand for the history with an accepted payment, once its changes
+-- are made.
+abbrev pub PaymentStands : Type 0
+PaymentStands = (tables : Tables) (opening : List Row) (entries : List Entry)
+    (from : Id) (q : ℕ) (message : List ℕ)
+    (house : Id) (ledger : List ℕ) (to : Id) (asset : List ℕ) (amount : ℕ) →
+    let book = book_of opening entries in
+    let later = with_change book (Paid from to asset amount) in
+    StandsFor tables opening entries → IsReached book → IsNew entries from q →
+    act_of Ledger message ≡ Ok (Pay house ledger to asset amount) →
+    length to.0 ≡ 32 → IsTrue (is_name asset) → length entries < 2 ^ 63 →
+    pay_refusal book from to asset amount ≡ None →
+    StandsFor
+    (after_batch
+    (payment_changes from to asset (free_of later from asset) (free_of later to asset)
+    (act_changes (length entries + 1) from q message)) tables)
+    opening (entries ++ Act from q message ∷ [])
