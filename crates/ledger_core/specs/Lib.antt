@@ -1,1 +1,2 @@
 pub mod LedgerFaults
+pub mod LedgerStep

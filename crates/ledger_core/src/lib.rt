@@ -1,11 +1,13 @@
 //! Ledgers: they keep assets for parties, and take acts in signed envelopes, each once.
 //!
 //! - `ledger_fault`, `ask_fault`, `open_fault`: the refusals
+//! - `payment`: payments
 #![tactic(auto)]
 
 pub mod ask_fault;
 pub mod ledger_fault;
 pub mod open_fault;
+mod payment;
 
 pub use ask_fault::AskFault;
 pub use ledger_fault::LedgerFault;

@@ -6,6 +6,7 @@
 //! - `changes`: changes to rows, as parts of a batch
 //! - `free_amount`, `registration`, `hold`, `move_count`, `used_key`, `entry`: the values of rows,
 //!   a type for each table
+//! - `reading`: reading the rows of each table
 //! - `row_value`: what the values of all tables have in common, and reading a row
 #![tactic(auto)]
 
@@ -17,6 +18,7 @@ pub mod hold;
 pub mod keys;
 pub mod laws;
 pub mod move_count;
+pub mod reading;
 pub mod registration;
 pub mod row_value;
 pub mod tables;
@@ -27,6 +29,7 @@ pub use entry::Entry;
 pub use free_amount::FreeAmount;
 pub use hold::Hold;
 pub use move_count::MoveCount;
+pub use reading::{read_free, read_hold, read_moves, read_registration, read_used};
 pub use registration::Registration;
 pub use row_value::{RowValue, read_row};
 pub use tables::{DEAL_TAB, ENTRY_TAB, FREE_TAB, HOLD_TAB, MOVES_TAB, USED_TAB};
