@@ -1,2 +1,3 @@
 pub mod LedgerFaults
 pub mod LedgerStep
+pub mod Paying

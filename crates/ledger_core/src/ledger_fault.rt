@@ -5,7 +5,7 @@ use deal_core::DealFault;
 use dh_base::refusal::{called, ending, hash, number, write_refusal};
 use dh_base::{Id, Name, NoMemory, Outcome, Refusal, Telling};
 use escrow_book::BookFault;
-use keeper_core::StoreFault;
+use keeper_core::{KeepFault, StoreFault};
 use key_ring::EnvFault;
 use std::fmt;
 
@@ -52,6 +52,18 @@ impl From<StoreFault> for LedgerFault {
 
     fn from(fault: StoreFault) -> LedgerFault {
         LedgerFault::Store { fault }
+    }
+}
+
+impl From<KeepFault> for LedgerFault {
+    ghost use Rattle.std.specs.Prelude.{◌≡◌};
+    ghost use Rattle.keeper_core.specs.StoreFaults.{store_fault_of};
+    ghost use Rattle.ledger_core.specs.declared.ledger_fault.LedgerFault.TheVariants.{Store};
+
+    ghost from_gives = { λ fault given. given ≡ Store (store_fault_of fault) };
+
+    fn from(fault: KeepFault) -> LedgerFault {
+        LedgerFault::from(StoreFault::from(fault))
     }
 }
 

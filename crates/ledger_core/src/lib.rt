@@ -7,6 +7,7 @@
 pub mod ask_fault;
 pub mod ledger_fault;
 pub mod open_fault;
+mod paying;
 mod payment;
 
 pub use ask_fault::AskFault;

@@ -1,0 +1,109 @@
+-- What a ledger replies to a payment by the rows that it reads, and what it commits.
+use Rattle.std.specs.Prelude.{ℕ, ◌≡◌, ◌+◌, ◌==◌, if◌then◌else◌, List, [], ◌∷◌, Option, Some, None, Result}
+use Rattle.std.specs.Option.{option_map, option_or, unwrap_or}
+use Rattle.dh_base.specs.declared.id.Id.{Id}
+use Rattle.escrow_book.specs.declared.change.Change.TheVariants.{Paid}
+use Rattle.escrow_book.specs.declared.part_fault.PartFault.{PartFault}
+use Rattle.escrow_book.specs.declared.part_fault.PartFault.TheVariants as part
+use Rattle.escrow_book.specs.declared.row.BookRow.{BookRow}
+use Rattle.escrow_book.specs.declared.row.BookRow.TheVariants.{Free}
+use Rattle.escrow_book.specs.History.{History, with_change, free_of}
+use Rattle.escrow_book.specs.Refused.{zero_or_self, pay_refusal}
+use Rattle.escrow_book.specs.PartRows.{no_rows, first_fault, part_of}
+use Rattle.keeper_core.specs.declared.change.Change.{Change}
+use Rattle.keeper_core.specs.declared.store_fault.StoreFault.{StoreFault}
+use Rattle.keeper_core.specs.declared.store_fault.StoreFault.TheVariants as store
+use Rattle.keeper_core.specs.Knowing.{Known, LooksAtMost}
+use Rattle.keeper_core.specs.Leaving.{ended}
+use Rattle.keeper_core.specs.Stepping.{WhereTold, LeavesBy, IsReply, commits_unless}
+use Rattle.keeper_core.specs.StoreFaults.{bad_row_of}
+use Rattle.keeper_core.specs.Tables.{Tables}
+use Rattle.ledger_rows.specs.RowKeys.{free_tab, free_key}
+use Rattle.ledger_rows.specs.RowReading.{either_refusal, both_said, free_said, free_refusal}
+use Rattle.ledger_rows.specs.ActChanges.{act_changes, payment_changes}
+use Rattle.ledger_core.specs.declared.ledger_fault.LedgerFault.{LedgerFault}
+use Rattle.ledger_core.specs.declared.ledger_fault.LedgerFault.TheVariants.{Store}
+use Rattle.ledger_core.specs.declared.payment.Payment.{Payment}
+use Rattle.ledger_core.specs.LedgerFaults.{of_ledger_fault}
+use Rattle.ledger_core.specs.LedgerStep.{first_of, by_book, full}
+
+-- The fault is the refusal. Want of memory may come in place of any answer.
+abbrev pub IsRefusedBy : Option LedgerFault → LedgerFault → Type 0
+IsRefusedBy refusal (Store store.Keeper) = ⊥
+IsRefusedBy refusal (Store store.NoMemory) = Unit {0}
+IsRefusedBy refusal fault = refusal ≡ Some fault
+
+-- ---- the part of the book that a payment touches
+
+-- what sender and receiver can spend
+abbrev pub paying_rows : Payment → ℕ → ℕ → List BookRow
+paying_rows p a b = Free p.from p.asset a ∷ Free p.to p.asset b ∷ []
+
+abbrev pub paying_part : Payment → ℕ → ℕ → History
+paying_part p a b = part_of (paying_rows p a b)
+
+abbrev pub paid_part : Payment → ℕ → ℕ → History
+paid_part p a b = with_change (paying_part p a b) (Paid p.from p.to p.asset p.amount)
+
+-- a row that fits no part is named
+abbrev pub row_refusal : Payment → ℕ → LedgerFault
+row_refusal p place =
+    if place == 0 then Store (bad_row_of free_tab (free_key p.from p.asset))
+    else Store (bad_row_of free_tab (free_key p.to p.asset))
+
+abbrev pub part_refusal : Payment → PartFault → LedgerFault
+part_refusal p (part.BadRows place) = row_refusal p place
+part_refusal p (part.SumTooLarge place) = row_refusal p place
+part_refusal p part.NoMemory = Store store.NoMemory
+
+-- the refusal of the payment where they can spend these amounts
+abbrev pub amounts_refusal : Payment → ℕ → ℕ → Option LedgerFault
+amounts_refusal p a b =
+    first_of (option_map (part_refusal p) (first_fault no_rows 0 (paying_rows p a b))
+    ∷ by_book (pay_refusal (paying_part p a b) p.from p.to p.asset p.amount) ∷ [])
+
+-- ---- by the tables
+
+abbrev pub spendable : Id → List ℕ → Tables → ℕ
+spendable account asset tables = unwrap_or (free_said account asset tables) 0
+
+abbrev pub sender_has : Payment → Tables → ℕ
+sender_has p tables = spendable p.from p.asset tables
+
+abbrev pub receiver_has : Payment → Tables → ℕ
+receiver_has p tables = spendable p.to p.asset tables
+
+-- the first row of the two that lacks its form
+abbrev pub rows_refusal : Payment → Tables → Option LedgerFault
+rows_refusal p tables =
+    option_map Store
+    (either_refusal (free_refusal p.from p.asset) (free_refusal p.to p.asset) tables)
+
+-- the refusal of the payment, on a ledger that accepted so many acts
+abbrev pub payment_refusal : Payment → ℕ → Tables → Option LedgerFault
+payment_refusal p acts tables =
+    first_of (by_book (zero_or_self p.amount p.from p.to) ∷ rows_refusal p tables
+    ∷ amounts_refusal p (sender_has p tables) (receiver_has p tables) ∷ full acts ∷ [])
+
+abbrev pub changes_with : Payment → ℕ → ℕ → List Change → List Change
+changes_with p a b act =
+    payment_changes p.from p.to p.asset (free_of (paid_part p a b) p.from p.asset)
+    (free_of (paid_part p a b) p.to p.asset) act
+
+-- what is committed for an accepted payment
+abbrev pub payment_batches : Payment → List Change → Tables → List (List Change)
+payment_batches p act tables =
+    changes_with p (sender_has p tables) (receiver_has p tables) act ∷ []
+
+-- the refusal where the rows say that they can spend these amounts
+abbrev pub changes_refusal : Payment → ℕ → ℕ → ℕ → Option LedgerFault
+changes_refusal p acts a b = first_of (amounts_refusal p a b ∷ full acts ∷ [])
+
+-- The payment is answered by the rows, and commits its changes where it is accepted.
+pub record PaysByRows (p : Payment) (acts : ℕ) (act : List Change)
+    (result : Result (Unit {0}) LedgerFault) (before after : Known) : Type 0 where
+  pub leaves : LeavesBy (commits_unless (payment_refusal p acts) (payment_batches p act))
+      (ended of_ledger_fault result) before after
+  pub reply : WhereTold before after (λ tables.
+      IsReply of_ledger_fault (payment_refusal p acts tables) (λ _. Unit {0}) result)
+  pub looked : LooksAtMost 2 before after
