@@ -1,1 +1,3 @@
 pub mod PayCalls
+pub mod PayAgrees
+pub mod PaySteps

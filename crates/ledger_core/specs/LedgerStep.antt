@@ -31,11 +31,13 @@ use Rattle.ledger_core.specs.declared.ledger_fault.LedgerFault.{LedgerFault}
 use Rattle.ledger_core.specs.declared.ledger_fault.LedgerFault.TheVariants.{BadEnvelope, BadAct, KeyReused, WrongLedger, BadDeal, WrongHouse, NotAParty, DealsFull, LedgerFull, Store}
 use Rattle.ledger_core.specs.LedgerFaults.{ledger_fault_of}
 
--- Which ledger it is: its name, the id of its house, and its opening rows.
+-- Which ledger it is: its name, the id of its house, its opening rows, and the identity that its
+-- opening has.
 pub record Opened : Type 0 where
   pub name : List ℕ
   pub house : Id
   pub rows : List Row
+  pub identity : Id
 
 abbrev pub first_of : List (Option LedgerFault) → Option LedgerFault
 first_of [] = None

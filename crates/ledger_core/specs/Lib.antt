@@ -1,3 +1,4 @@
 pub mod LedgerFaults
 pub mod LedgerStep
+pub mod LedgerState
 pub mod Paying

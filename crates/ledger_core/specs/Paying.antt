@@ -1,7 +1,11 @@
 -- What a ledger replies to a payment by the rows that it reads, and what it commits.
-use Rattle.std.specs.Prelude.{ℕ, ◌≡◌, ◌+◌, ◌==◌, if◌then◌else◌, List, [], ◌∷◌, Option, Some, None, Result}
+use Rattle.std.specs.Prelude.{ℕ, ◌≡◌, ◌+◌, ◌==◌, if◌then◌else◌, List, [], ◌∷◌, ◌++◌, length, Option, Some, None, IsTrue, Result, Ok}
 use Rattle.std.specs.Option.{option_map, option_or, unwrap_or}
 use Rattle.dh_base.specs.declared.id.Id.{Id}
+use Rattle.dh_base.specs.Names.{is_name}
+use Rattle.act_text.specs.declared.act.Act.TheVariants.{Pay}
+use Rattle.act_text.specs.declared.office.Office.TheVariants.{Ledger}
+use Rattle.act_text.specs.ActReading.{act_of}
 use Rattle.escrow_book.specs.declared.change.Change.TheVariants.{Paid}
 use Rattle.escrow_book.specs.declared.part_fault.PartFault.{PartFault}
 use Rattle.escrow_book.specs.declared.part_fault.PartFault.TheVariants as part
@@ -15,17 +19,21 @@ use Rattle.keeper_core.specs.declared.store_fault.StoreFault.{StoreFault}
 use Rattle.keeper_core.specs.declared.store_fault.StoreFault.TheVariants as store
 use Rattle.keeper_core.specs.Knowing.{Known, LooksAtMost}
 use Rattle.keeper_core.specs.Leaving.{ended}
-use Rattle.keeper_core.specs.Stepping.{WhereTold, LeavesBy, IsReply, commits_unless}
+use Rattle.keeper_core.specs.Stepping.{WhereTold, LeavesBy, IsReply, Backs, Steps, commits_unless}
 use Rattle.keeper_core.specs.StoreFaults.{bad_row_of}
 use Rattle.keeper_core.specs.Tables.{Tables}
 use Rattle.ledger_rows.specs.RowKeys.{free_tab, free_key}
 use Rattle.ledger_rows.specs.RowReading.{either_refusal, both_said, free_said, free_refusal}
-use Rattle.ledger_rows.specs.ActChanges.{act_changes, payment_changes}
+use Rattle.ledger_rows.specs.declared.entry.Entry.{Entry}
+use Rattle.ledger_rows.specs.declared.entry.Entry.TheVariants.{Act}
+use Rattle.ledger_rows.specs.Entries.{book_of}
+use Rattle.ledger_rows.specs.ActChanges.{IsNew, act_changes, payment_changes}
 use Rattle.ledger_core.specs.declared.ledger_fault.LedgerFault.{LedgerFault}
 use Rattle.ledger_core.specs.declared.ledger_fault.LedgerFault.TheVariants.{Store}
 use Rattle.ledger_core.specs.declared.payment.Payment.{Payment}
 use Rattle.ledger_core.specs.LedgerFaults.{of_ledger_fault}
-use Rattle.ledger_core.specs.LedgerStep.{first_of, by_book, full}
+use Rattle.ledger_core.specs.LedgerStep.{Opened, first_of, by_book, acts_of, full}
+use Rattle.ledger_core.specs.LedgerState.{IsState}
 
 -- The fault is the refusal. Want of memory may come in place of any answer.
 abbrev pub IsRefusedBy : Option LedgerFault → LedgerFault → Type 0
@@ -107,3 +115,35 @@ pub record PaysByRows (p : Payment) (acts : ℕ) (act : List Change)
   pub reply : WhereTold before after (λ tables.
       IsReply of_ledger_fault (payment_refusal p acts tables) (λ _. Unit {0}) result)
   pub looked : LooksAtMost 2 before after
+
+-- ---- by the history
+
+-- The message is an act of the account under that key, which asks for the payment, and the key has
+-- signed no entry.
+pub record IsPaymentOf (p : Payment) (entries : List Entry) (account : Id) (q : ℕ)
+    (message : List ℕ) : Type 0 where
+  pub house : Id
+  pub ledger : List ℕ
+  pub reads : act_of Ledger message ≡ Ok (Pay house ledger p.to p.asset p.amount)
+  pub from : p.from ≡ account
+  pub to : length p.to.0 ≡ 32
+  pub asset : IsTrue (is_name p.asset)
+  pub new : IsNew entries account q
+
+-- the refusal behind those of the wrong ledger and house
+abbrev pub payment_step_refusal : Opened → List Entry → Payment → Option LedgerFault
+payment_step_refusal opened entries p =
+    first_of
+    (by_book (pay_refusal (book_of opened.rows entries) p.from p.to p.asset p.amount)
+    ∷ full (acts_of entries) ∷ [])
+
+-- The call is the ledger's step: its reply is the history's, and the tables then stand for the
+-- history with the payment, or after a fault still for the history.
+abbrev pub PaysByStep : Payment → ℕ → ℕ → Id → ℕ → List ℕ → Result (Unit {0}) LedgerFault
+    → Known → Known → Type 0
+PaysByStep p acts number account q message result before after =
+    (opened : Opened) (entries : List Entry) → Backs (IsState opened) before.tables entries →
+    IsPaymentOf p entries account q message →
+    acts ≡ acts_of entries → number ≡ length entries + 1 →
+    Steps (IsState opened) of_ledger_fault (payment_step_refusal opened entries p)
+    (λ _. Unit {0}) entries (entries ++ Act account q message ∷ []) result before after

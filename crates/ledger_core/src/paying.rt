@@ -7,7 +7,7 @@ ghost use Rattle.escrow_book.specs.PartRows.{no_rows, first_fault};
 ghost use Rattle.ledger_rows.specs.RowReading.{Reads, LacksForm, both_said, either_refusal, free_said, free_refusal};
 ghost use Rattle.dh_base.specs.Ids.{same_id};
 ghost use Rattle.ledger_rows.specs.ActChanges.{act_changes, payment_changes};
-ghost use Rattle.ledger_core.specs.Paying.{IsRefusedBy, paying_rows, paying_part, paid_part, row_refusal, part_refusal, amounts_refusal, changes_with, changes_refusal, PaysByRows};
+ghost use Rattle.ledger_core.specs.Paying.{IsRefusedBy, paying_rows, paying_part, paid_part, row_refusal, part_refusal, amounts_refusal, changes_with, changes_refusal, PaysByRows, PaysByStep};
 
 use crate::ledger_fault::LedgerFault;
 use crate::payment::Payment;
@@ -191,7 +191,7 @@ fn changes_for(
 
 /// Makes a payment by the rows, on a ledger that accepted so many acts. Its entry is to have that
 /// number.
-pub(crate) fn pay<K: Keeper>(
+fn pay_by_rows<K: Keeper>(
     alloc: Global,
     keeper: &mut K,
     acts: u32,
@@ -210,4 +210,23 @@ pub(crate) fn pay<K: Keeper>(
     let held = read_both(alloc, keeper, payment)?;
     let batch = changes_for(alloc, acts, number, said, message, payment, held)?;
     Ok(keeper.commit(&batch)?)
+}
+
+/// Makes a payment on a ledger that accepted so many acts. Its entry is to have that number.
+pub(crate) fn pay<K: Keeper>(
+    alloc: Global,
+    keeper: &mut K,
+    acts: u32,
+    number: u64,
+    said: &Said,
+    message: &[u8],
+    payment: &Payment,
+) -> Result<(), LedgerFault>
+    ensures rows { PaysByRows payment.now acts
+        (act_changes number said.now.account said.now.q message.now) result
+        (K.known keeper.old) (K.known keeper.new) }
+    ensures step { PaysByStep payment.now acts number said.now.account said.now.q message.now
+        result (K.known keeper.old) (K.known keeper.new) }
+{
+    pay_by_rows(alloc, keeper, acts, number, said, message, payment)
 }

@@ -60,7 +60,7 @@ free_spelled val free are e =
     let below : n < 2 ^ 64 = number_below w64 wide64 0 val are in
     ((subst (λ (k : ℕ). 0 < k) amount some, subst (λ (k : ℕ). k < 2 ^ 64) amount below), sym back ∙ ap (to_be_bytes w64) amount)
 
-spelled_free : (free : FreeAmount) → FreeFits free → free_in (free_text free) ≡ Some free
+pub spelled_free : (free : FreeAmount) → FreeFits free → free_in (free_text free) ≡ Some free
 unfolding free_if
 spelled_free free fits =
     let n : ℕ = free.amount in
