@@ -1,3 +1,4 @@
 pub mod PayCalls
 pub mod PayAgrees
 pub mod PaySteps
+pub mod Onces

@@ -24,6 +24,7 @@ use Rattle.ledger_core.specs.declared.ledger_fault.LedgerFault.TheVariants.{BadE
 use Rattle.ledger_core.specs.declared.payment.Payment.{Payment}
 use Rattle.ledger_core.specs.LedgerFaults.{of_ledger_fault}
 use Rattle.ledger_core.specs.LedgerStep.{first_of, by_book, full}
+use Rattle.ledger_core.specs.Once.{ByRows}
 use Rattle.ledger_core.specs.Paying.{IsRefusedBy, rows_refusal, sender_has, receiver_has, amounts_refusal, payment_refusal, changes_with, payment_batches, changes_refusal, PaysByRows}
 
 -- ---- refusals
@@ -48,7 +49,7 @@ by_rule refusal (Store store.Keeper) is = absurd is
 by_rule refusal (Store (store.BadRow tab key)) is = (is, λ e. absurd cc)
 by_rule refusal (Store store.NoMemory) is = (tt, λ e. absurd cc)
 
-store_not_done : (fault : StoreFault) → of_store_fault fault ≡ done → ⊥
+pub store_not_done : (fault : StoreFault) → of_store_fault fault ≡ done → ⊥
 store_not_done store.Keeper e = absurd cc
 store_not_done (store.BadRow tab key) e = absurd cc
 store_not_done store.NoMemory e = absurd cc
@@ -71,7 +72,7 @@ never_done (LedgerFull acts) e = absurd cc
 never_done (Store fault) e = store_not_done fault e
 
 -- the fault of a row, as the ledger's
-stored : (how : Ended) (rest : Option LedgerFault) (refusal : Option StoreFault) (fault : StoreFault) → IsRefusal how refusal fault → IsRefusal how (option_or (option_map Store refusal) rest) (Store fault)
+pub stored : (how : Ended) (rest : Option LedgerFault) (refusal : Option StoreFault) (fault : StoreFault) → IsRefusal how refusal fault → IsRefusal how (option_or (option_map Store refusal) rest) (Store fault)
 stored done rest refusal fault is = is
 stored failed rest refusal fault is = tt
 stored starved rest refusal fault is = tt
@@ -84,7 +85,7 @@ told_always P before None always = tt
 told_always P None (Some later) always = tt
 told_always P (Some tables) (Some later) always = always tables
 
-told_on : (P R : Tables → Type 0) (before after : Option Tables) → ((tables : Tables) → P tables → R tables) → IfSome after (λ _. IfSome before P) → IfSome after (λ _. IfSome before R)
+pub told_on : (P R : Tables → Type 0) (before after : Option Tables) → ((tables : Tables) → P tables → R tables) → IfSome after (λ _. IfSome before P) → IfSome after (λ _. IfSome before R)
 told_on P R before None on p = tt
 told_on P R None (Some later) on p = tt
 told_on P R (Some tables) (Some later) on p = on tables p

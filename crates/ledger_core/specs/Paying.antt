@@ -26,7 +26,7 @@ use Rattle.ledger_rows.specs.RowKeys.{free_tab, free_key}
 use Rattle.ledger_rows.specs.RowReading.{either_refusal, both_said, free_said, free_refusal}
 use Rattle.ledger_rows.specs.declared.entry.Entry.{Entry}
 use Rattle.ledger_rows.specs.declared.entry.Entry.TheVariants.{Act}
-use Rattle.ledger_rows.specs.Entries.{book_of}
+use Rattle.ledger_rows.specs.Entries.{digest_of, book_of}
 use Rattle.ledger_rows.specs.ActChanges.{IsNew, act_changes, payment_changes}
 use Rattle.ledger_core.specs.declared.ledger_fault.LedgerFault.{LedgerFault}
 use Rattle.ledger_core.specs.declared.ledger_fault.LedgerFault.TheVariants.{Store}
@@ -34,6 +34,7 @@ use Rattle.ledger_core.specs.declared.payment.Payment.{Payment}
 use Rattle.ledger_core.specs.LedgerFaults.{of_ledger_fault}
 use Rattle.ledger_core.specs.LedgerStep.{Opened, first_of, by_book, acts_of, full}
 use Rattle.ledger_core.specs.LedgerState.{IsState}
+use Rattle.ledger_core.specs.Once.{ByRows, once_refusal, once_batches, IsOnceAnswer}
 
 -- The fault is the refusal. Want of memory may come in place of any answer.
 abbrev pub IsRefusedBy : Option LedgerFault → LedgerFault → Type 0
@@ -108,13 +109,10 @@ abbrev pub changes_refusal : Payment → ℕ → ℕ → ℕ → Option LedgerFa
 changes_refusal p acts a b = first_of (amounts_refusal p a b ∷ full acts ∷ [])
 
 -- The payment is answered by the rows, and commits its changes where it is accepted.
-pub record PaysByRows (p : Payment) (acts : ℕ) (act : List Change)
-    (result : Result (Unit {0}) LedgerFault) (before after : Known) : Type 0 where
-  pub leaves : LeavesBy (commits_unless (payment_refusal p acts) (payment_batches p act))
-      (ended of_ledger_fault result) before after
-  pub reply : WhereTold before after (λ tables.
-      IsReply of_ledger_fault (payment_refusal p acts tables) (λ _. Unit {0}) result)
-  pub looked : LooksAtMost 2 before after
+abbrev pub PaysByRows : Payment → ℕ → List Change → Result (Unit {0}) LedgerFault → Known → Known
+    → Type 0
+PaysByRows p acts act =
+    ByRows 2 (payment_refusal p acts) (payment_batches p act) (λ tables done. Unit {0})
 
 -- ---- by the history
 
@@ -147,3 +145,13 @@ PaysByStep p acts number account q message result before after =
     acts ≡ acts_of entries → number ≡ length entries + 1 →
     Steps (IsState opened) of_ledger_fault (payment_step_refusal opened entries p)
     (λ _. Unit {0}) entries (entries ++ Act account q message ∷ []) result before after
+
+-- ---- once
+
+-- The payment is made under its key once. It looks one row more up.
+abbrev pub PaysOnceByRows : Payment → ℕ → ℕ → Id → ℕ → List ℕ → Result ℕ LedgerFault → Known
+    → Known → Type 0
+PaysOnceByRows p acts number account q message =
+    ByRows 3 (once_refusal account q (digest_of message) (payment_refusal p acts))
+    (once_batches account q (payment_batches p (act_changes number account q message)))
+    (IsOnceAnswer account q number)

@@ -7,7 +7,9 @@ ghost use Rattle.escrow_book.specs.PartRows.{no_rows, first_fault};
 ghost use Rattle.ledger_rows.specs.RowReading.{Reads, LacksForm, both_said, either_refusal, free_said, free_refusal};
 ghost use Rattle.dh_base.specs.Ids.{same_id};
 ghost use Rattle.ledger_rows.specs.ActChanges.{act_changes, payment_changes};
-ghost use Rattle.ledger_core.specs.Paying.{IsRefusedBy, paying_rows, paying_part, paid_part, row_refusal, part_refusal, amounts_refusal, changes_with, changes_refusal, PaysByRows, PaysByStep};
+ghost use Rattle.ledger_rows.specs.Entries.{digest_of};
+ghost use Rattle.ledger_core.specs.LedgerStep.{kept_reply};
+ghost use Rattle.ledger_core.specs.Paying.{IsRefusedBy, paying_rows, paying_part, paid_part, row_refusal, part_refusal, amounts_refusal, changes_with, changes_refusal, PaysByRows, PaysByStep, PaysOnceByRows};
 
 use crate::ledger_fault::LedgerFault;
 use crate::payment::Payment;
@@ -16,7 +18,7 @@ use escrow_book::{Book, BookRow, PartFault};
 use keeper_core::{Batch, Keeper, StoreFault};
 use key_ring::Said;
 use ledger_rows::keys::free_key;
-use ledger_rows::{Entry, FREE_TAB, UsedKey, put_entry, put_free, put_used, read_free};
+use ledger_rows::{Entry, FREE_TAB, UsedKey, put_entry, put_free, put_used, read_free, read_used};
 use std::alloc::Global;
 
 /// What sender and receiver can spend.
@@ -229,4 +231,37 @@ pub(crate) fn pay<K: Keeper>(
         result (K.known keeper.old) (K.known keeper.new) }
 {
     pay_by_rows(alloc, keeper, acts, number, said, message, payment)
+}
+
+/// What is replied to a message under a key that has signed an accepted act.
+fn kept_reply(used: &UsedKey, message: &[u8]) -> Result<u64, LedgerFault>
+    ensures { result ≡ kept_reply used.now (digest_of message.now) }
+{
+    if digest(message) == used.message {
+        Ok(used.at)
+    } else {
+        Err(LedgerFault::KeyReused { kept: used.message })
+    }
+}
+
+/// Makes a payment once: a key that has signed an accepted act is answered by what is kept.
+pub(crate) fn pay_once<K: Keeper>(
+    alloc: Global,
+    keeper: &mut K,
+    acts: u32,
+    number: u64,
+    said: &Said,
+    message: &[u8],
+    payment: &Payment,
+) -> Result<u64, LedgerFault>
+    ensures rows { PaysOnceByRows payment.now acts number said.now.account said.now.q message.now
+        result (K.known keeper.old) (K.known keeper.new) }
+{
+    match read_used(alloc, keeper, &said.account, said.q)? {
+        Some(used) => kept_reply(&used, message),
+        None => {
+            pay(alloc, keeper, acts, number, said, message, payment)?;
+            Ok(number)
+        }
+    }
 }
