@@ -103,7 +103,7 @@ module _ (opened : Opened) (entries : List Entry) (p : Payment) (acts number : �
         change_at (entry_change (length entries + 1) (Act account q message)) three (form_tab, form_key) ∙ change_at used two (form_tab, form_key)
         ∙ free_at p.to p.asset (free_of later p.to p.asset) one (form_tab, form_key) ∙ free_at account p.asset (free_of later account p.asset) tables (form_tab, form_key)
 
-    onward : IsState opened (after_batches (payment_batches p act tables) tables) (entries ++ Act account q message ∷ [])
+    pub onward : IsState opened (after_batches (payment_batches p act tables) tables) (entries ++ Act account q message ∷ [])
     onward =
         let more = acts_more entries account q message in
         let few = no_refusal.1 in

@@ -1,5 +1,5 @@
 -- What a ledger replies to a payment by the rows that it reads, and what it commits.
-use Rattle.std.specs.Prelude.{ℕ, ◌≡◌, ◌+◌, ◌==◌, if◌then◌else◌, List, [], ◌∷◌, ◌++◌, length, Option, Some, None, IsTrue, Result, Ok}
+use Rattle.std.specs.Prelude.{ℕ, ◌≡◌, ◌+◌, ◌<◌, ◌^◌, ◌==◌, if◌then◌else◌, List, [], ◌∷◌, ◌++◌, length, Option, Some, None, IsTrue, Result, Ok}
 use Rattle.std.specs.Option.{option_map, option_or, unwrap_or}
 use Rattle.dh_base.specs.declared.id.Id.{Id}
 use Rattle.dh_base.specs.Names.{is_name}
@@ -26,7 +26,7 @@ use Rattle.ledger_rows.specs.RowKeys.{free_tab, free_key}
 use Rattle.ledger_rows.specs.RowReading.{either_refusal, both_said, free_said, free_refusal}
 use Rattle.ledger_rows.specs.declared.entry.Entry.{Entry}
 use Rattle.ledger_rows.specs.declared.entry.Entry.TheVariants.{Act}
-use Rattle.ledger_rows.specs.Entries.{digest_of, book_of}
+use Rattle.ledger_rows.specs.Entries.{digest_of, book_of, used_of}
 use Rattle.ledger_rows.specs.ActChanges.{IsNew, act_changes, payment_changes}
 use Rattle.ledger_core.specs.declared.ledger_fault.LedgerFault.{LedgerFault}
 use Rattle.ledger_core.specs.declared.ledger_fault.LedgerFault.TheVariants.{Store}
@@ -34,7 +34,7 @@ use Rattle.ledger_core.specs.declared.payment.Payment.{Payment}
 use Rattle.ledger_core.specs.LedgerFaults.{of_ledger_fault}
 use Rattle.ledger_core.specs.LedgerStep.{Opened, first_of, by_book, acts_of, full}
 use Rattle.ledger_core.specs.LedgerState.{IsState}
-use Rattle.ledger_core.specs.Once.{ByRows, once_refusal, once_batches, IsOnceAnswer}
+use Rattle.ledger_core.specs.Once.{ByRows, by_key, number_by, entries_by, once_refusal, once_batches, IsOnceAnswer}
 
 -- The fault is the refusal. Want of memory may come in place of any answer.
 abbrev pub IsRefusedBy : Option LedgerFault → LedgerFault → Type 0
@@ -155,3 +155,27 @@ PaysOnceByRows p acts number account q message =
     ByRows 3 (once_refusal account q (digest_of message) (payment_refusal p acts))
     (once_batches account q (payment_batches p (act_changes number account q message)))
     (IsOnceAnswer account q number)
+
+-- The message is an act of the account under that key, which asks for the payment.
+pub record AsksFor (p : Payment) (account : Id) (q : ℕ) (message : List ℕ) : Type 0 where
+  pub house : Id
+  pub ledger : List ℕ
+  pub reads : act_of Ledger message ≡ Ok (Pay house ledger p.to p.asset p.amount)
+  pub from : p.from ≡ account
+  pub wide : length account.0 ≡ 32
+  pub small : q < 2 ^ 32
+  pub to : length p.to.0 ≡ 32
+  pub asset : IsTrue (is_name p.asset)
+
+-- The call is the ledger's step: where the key has signed an entry, it is answered by that entry
+-- and changes nothing; else the payment is the next entry, or is refused.
+abbrev pub PaysOnceByStep : Payment → ℕ → ℕ → Id → ℕ → List ℕ → Result ℕ LedgerFault → Known
+    → Known → Type 0
+PaysOnceByStep p acts number account q message result before after =
+    (opened : Opened) (entries : List Entry) → Backs (IsState opened) before.tables entries →
+    AsksFor p account q message → acts ≡ acts_of entries → number ≡ length entries + 1 →
+    let used = used_of entries account q in
+    Steps (IsState opened) of_ledger_fault
+    (by_key (digest_of message) used (payment_step_refusal opened entries p))
+    (λ at. at ≡ number_by used (length entries + 1)) entries
+    (entries_by used entries (Act account q message)) result before after

@@ -9,7 +9,7 @@ ghost use Rattle.dh_base.specs.Ids.{same_id};
 ghost use Rattle.ledger_rows.specs.ActChanges.{act_changes, payment_changes};
 ghost use Rattle.ledger_rows.specs.Entries.{digest_of};
 ghost use Rattle.ledger_core.specs.LedgerStep.{kept_reply};
-ghost use Rattle.ledger_core.specs.Paying.{IsRefusedBy, paying_rows, paying_part, paid_part, row_refusal, part_refusal, amounts_refusal, changes_with, changes_refusal, PaysByRows, PaysByStep, PaysOnceByRows};
+ghost use Rattle.ledger_core.specs.Paying.{IsRefusedBy, paying_rows, paying_part, paid_part, row_refusal, part_refusal, amounts_refusal, changes_with, changes_refusal, PaysByRows, PaysByStep, PaysOnceByRows, PaysOnceByStep};
 
 use crate::ledger_fault::LedgerFault;
 use crate::payment::Payment;
@@ -244,7 +244,30 @@ fn kept_reply(used: &UsedKey, message: &[u8]) -> Result<u64, LedgerFault>
     }
 }
 
-/// Makes a payment once: a key that has signed an accepted act is answered by what is kept.
+/// Makes a payment once, by the rows.
+fn pay_once_by_rows<K: Keeper>(
+    alloc: Global,
+    keeper: &mut K,
+    acts: u32,
+    number: u64,
+    said: &Said,
+    message: &[u8],
+    payment: &Payment,
+) -> Result<u64, LedgerFault>
+    ensures { PaysOnceByRows payment.now acts number said.now.account said.now.q message.now
+        result (K.known keeper.old) (K.known keeper.new) }
+{
+    match read_used(alloc, keeper, &said.account, said.q)? {
+        Some(used) => kept_reply(&used, message),
+        None => {
+            pay(alloc, keeper, acts, number, said, message, payment)?;
+            Ok(number)
+        }
+    }
+}
+
+/// Makes a payment once, on a ledger that accepted so many acts: a key that has signed an accepted
+/// act is answered by what is kept. The entry of the payment is to have that number.
 pub(crate) fn pay_once<K: Keeper>(
     alloc: Global,
     keeper: &mut K,
@@ -256,12 +279,8 @@ pub(crate) fn pay_once<K: Keeper>(
 ) -> Result<u64, LedgerFault>
     ensures rows { PaysOnceByRows payment.now acts number said.now.account said.now.q message.now
         result (K.known keeper.old) (K.known keeper.new) }
+    ensures step { PaysOnceByStep payment.now acts number said.now.account said.now.q message.now
+        result (K.known keeper.old) (K.known keeper.new) }
 {
-    match read_used(alloc, keeper, &said.account, said.q)? {
-        Some(used) => kept_reply(&used, message),
-        None => {
-            pay(alloc, keeper, acts, number, said, message, payment)?;
-            Ok(number)
-        }
-    }
+    pay_once_by_rows(alloc, keeper, acts, number, said, message, payment)
 }

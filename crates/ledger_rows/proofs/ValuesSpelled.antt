@@ -154,7 +154,7 @@ used_spelled val used are e =
     let below : n < 2 ^ 64 = number_below w64 wide64 0 val are in
     ((omega (arith, below, at), sym (ap length second) ∙ omega (arith, long, length-drop 8 val)), sym (take-append-drop 8 val) ∙ (λ i. sym first i ++ second i) ∙ ap (λ (k : ℕ). to_be_bytes w64 k ++ used.message.0) at)
 
-spelled_used : (used : UsedKey) → UsedFits used → used_in (used_text used) ≡ Some used
+pub spelled_used : (used : UsedKey) → UsedFits used → used_in (used_text used) ≡ Some used
 unfolding used_if
 spelled_used used fits =
     let n : ℕ = used.at in

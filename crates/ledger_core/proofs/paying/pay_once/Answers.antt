@@ -1,79 +1,8 @@
-use Rattle.std.proofs.Common.{rules, ◌≡◌, ◌∙◌, ap, Option, Some, None, Result, Err, Ok, sym, subst, ℕ}
-use Rattle.keeper_core.specs.declared.store_fault.StoreFault.{StoreFault}
-use Rattle.ledger_rows.specs.declared.used_key.UsedKey.{UsedKey}
-use Rattle.ledger_rows.specs.RowReading.{Reads, LacksForm, used_said, used_refusal}
-use Rattle.ledger_rows.specs.ActChanges.{act_changes}
-use Rattle.ledger_rows.specs.Entries.{digest_of}
-use Rattle.ledger_core.specs.declared.ledger_fault.LedgerFault.{LedgerFault}
-use Rattle.ledger_core.specs.declared.ledger_fault.LedgerFault.TheVariants.{Store}
-use Rattle.ledger_core.specs.Paying.{payment_refusal, payment_batches, PaysOnceByRows}
-use Rattle.ledger_core.proofs.Onces.{key_unread, key_kept, new_refused, new_done}
+use Rattle.ledger_core.proofs.OnceSteps.{pays_once}
 use Rattle.ledger_core.proofs.paying.pay_once.Goals as goal
 
-pub returns-in_err-used : goal.returns-in_err-used
-returns-in_err-used g c =
-    let p = c.args.payment.now in
-    let account = c.args.said.now.account in
-    let q = c.args.said.now.q in
-    let message = c.args.message.now in
-    let before = g.K.Keeper.known c.args.keeper.now in
-    let after = g.K.Keeper.known c.read_used.new.keeper in
-    let fault = c.in_err-used.field-0.0 in
-    let read = rw c.in_err-used.was at c.read_used.ensures in
-    let is : c.from_residual.result ≡ Err (Store fault) = search rules in
-    record {
-      rows = subst (λ (r : Result ℕ LedgerFault). PaysOnceByRows p c.args.acts c.args.number account q message r before after) (sym is)
-          (key_unread 2 account q (digest_of message) c.args.number (payment_refusal p c.args.acts) (payment_batches p (act_changes c.args.number account q message)) fault before after read);
-    }
-
-pub returns-in_err-pay-in-None : goal.returns-in_err-pay-in-None
-returns-in_err-pay-in-None g c =
-    let p = c.args.payment.now in
-    let account = c.args.said.now.account in
-    let q = c.args.said.now.q in
-    let message = c.args.message.now in
-    let before = g.K.Keeper.known c.args.keeper.now in
-    let mid = g.K.Keeper.known c.read_used.new.keeper in
-    let after = g.K.Keeper.known c.pay.new.keeper in
-    let fault = c.in_err-pay-in-None.field-0.0 in
-    let read = rw c.in_ok-used.was at c.read_used.ensures in
-    let unused : Reads 1 (used_said account q) (used_refusal account q) LacksForm (Ok None) before mid =
-    subst (λ (o : Option UsedKey). Reads 1 (used_said account q) (used_refusal account q) LacksForm (Ok o) before mid) c.in-None.is read in
-    let paid = rw c.in_err-pay-in-None.was at c.pay.ensures.rows in
-    let is : c.from_residual-in_err-pay-in-None.result ≡ Err fault = search rules in
-    record {
-      rows = subst (λ (r : Result ℕ LedgerFault). PaysOnceByRows p c.args.acts c.args.number account q message r before after) (sym is)
-          (new_refused 2 account q (digest_of message) c.args.number (payment_refusal p c.args.acts) (payment_batches p (act_changes c.args.number account q message)) before mid after unused fault paid);
-    }
-
-pub returns-in_ok-pay-in-None : goal.returns-in_ok-pay-in-None
-returns-in_ok-pay-in-None g c =
-    let p = c.args.payment.now in
-    let account = c.args.said.now.account in
-    let q = c.args.said.now.q in
-    let message = c.args.message.now in
-    let before = g.K.Keeper.known c.args.keeper.now in
-    let mid = g.K.Keeper.known c.read_used.new.keeper in
-    let after = g.K.Keeper.known c.pay.new.keeper in
-    let read = rw c.in_ok-used.was at c.read_used.ensures in
-    let unused : Reads 1 (used_said account q) (used_refusal account q) LacksForm (Ok None) before mid =
-    subst (λ (o : Option UsedKey). Reads 1 (used_said account q) (used_refusal account q) LacksForm (Ok o) before mid) c.in-None.is read in
-    let paid = rw c.in_ok-pay-in-None.was at c.pay.ensures.rows in
-    record { rows = new_done 2 account q (digest_of message) c.args.number (payment_refusal p c.args.acts) (payment_batches p (act_changes c.args.number account q message)) before mid after unused c.in_ok-pay-in-None.field-0 paid }
-
-pub returns-in-Some : goal.returns-in-Some
-returns-in-Some g c =
-    let p = c.args.payment.now in
-    let account = c.args.said.now.account in
-    let q = c.args.said.now.q in
-    let message = c.args.message.now in
-    let before = g.K.Keeper.known c.args.keeper.now in
-    let after = g.K.Keeper.known c.read_used.new.keeper in
-    let used = c.in-Some.used in
-    let read = rw c.in_ok-used.was at c.read_used.ensures in
-    let there : Reads 1 (used_said account q) (used_refusal account q) LacksForm (Ok (Some used)) before after =
-    subst (λ (o : Option UsedKey). Reads 1 (used_said account q) (used_refusal account q) LacksForm (Ok o) before after) c.in-Some.is read in
-    record {
-      rows = subst (λ (r : Result ℕ LedgerFault). PaysOnceByRows p c.args.acts c.args.number account q message r before after) (sym c.kept_reply.ensures)
-          (key_kept 2 account q (digest_of message) c.args.number (payment_refusal p c.args.acts) (payment_batches p (act_changes c.args.number account q message)) used before after there);
-    }
+pub returns-clause-step : goal.returns-clause-step
+returns-clause-step g c =
+    λ opened entries stands of is_acts is_number.
+    pays_once opened entries c.args.payment.now c.args.acts c.args.number c.args.said.now.account c.args.said.now.q c.args.message.now of is_acts is_number
+    c.pay_once_by_rows.result (g.K.Keeper.known c.args.keeper.now) (g.K.Keeper.known c.pay_once_by_rows.new.keeper) c.pay_once_by_rows.ensures stands
