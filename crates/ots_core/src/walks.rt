@@ -151,7 +151,9 @@ pub(crate) fn walk(key: &Key, ways: &Ways, start: &[[u8; 32]; 67]) -> [[u8; 32];
     for steps in 0..STEPS + 1 {
         join_all(key, ways, steps, &mut group, &mut values);
     }
-    walk_group(key, ways, STEPS, &mut group, &mut values);
+    if group.first < group.count {
+        walk_group(key, ways, STEPS, &mut group, &mut values);
+    }
     values
 }
 
