@@ -1,16 +1,15 @@
 -- A payment under its key is the ledger's step.
-use Rattle.std.proofs.Common.{◌≡◌, ℕ, ◌+◌, ◌*◌, ◌<◌, ◌≤◌, ◌^◌, ◌==◌, ◌&&◌, Bool, true, false, if◌then◌else◌, List, [], ◌∷◌, ◌++◌, length, Option, Some, None, IfSome, Result, Ok, Err, refl, sym, ap, subst, ◌∙◌, arith}
+use Rattle.std.proofs.Common.{◌≡◌, ℕ, ◌+◌, ◌<◌, ◌≤◌, ◌^◌, ◌==◌, ◌&&◌, Bool, true, false, if◌then◌else◌, List, [], ◌∷◌, length, Option, Some, None, IfSome, Result, Ok, Err, refl, sym, ap, subst, ◌∙◌, arith}
 use Rattle.std.specs.Option.{option_map, option_or}
 use Rattle.std.specs.FinMap.{get}
 use Rattle.sha2.proofs.Facts256.{length-sha256}
 use Rattle.dh_base.specs.declared.id.Id.{Id}
 use Rattle.dh_base.specs.Ids.{same_id}
 use Rattle.keeper_core.specs.declared.change.Change.{Change}
-use Rattle.keeper_core.specs.declared.store_fault.StoreFault.{StoreFault}
 use Rattle.keeper_core.specs.Tables.{Tables}
 use Rattle.keeper_core.specs.Knowing.{Known}
 use Rattle.keeper_core.specs.Leaving.{after_batches}
-use Rattle.keeper_core.specs.Stepping.{WhereTold, IsReply, AtMostOne, Backs, Steps}
+use Rattle.keeper_core.specs.Stepping.{IsReply, AtMostOne, Backs, Steps}
 use Rattle.keeper_core.proofs.Stepping.{steps}
 use Rattle.ledger_rows.specs.declared.entry.Entry.{Entry}
 use Rattle.ledger_rows.specs.declared.entry.Entry.TheVariants.{Act, Settlement}

@@ -1,14 +1,14 @@
 -- Acts under keys, by the rows: what each ending answers and leaves.
-use Rattle.std.proofs.Common.{◌≡◌, ℕ, ◌+◌, ◌≤◌, Bool, true, false, if◌then◌else◌, List, [], ◌∷◌, Option, Some, None, is_some, IfSome, IsSome, Result, Ok, Err, refl, sym, ap, subst, ◌∙◌, arith}
+use Rattle.std.proofs.Common.{◌≡◌, ℕ, ◌+◌, Bool, true, false, if◌then◌else◌, List, [], Option, Some, None, is_some, IfSome, IsSome, Result, Ok, Err, refl, sym, ap, subst, ◌∙◌, arith}
 use Rattle.std.specs.Option.{option_map, option_or}
 use Rattle.dh_base.specs.declared.id.Id.{Id}
 use Rattle.dh_base.specs.Ids.{same_id}
 use Rattle.keeper_core.specs.declared.change.Change.{Change}
 use Rattle.keeper_core.specs.declared.store_fault.StoreFault.{StoreFault}
 use Rattle.keeper_core.specs.Tables.{Tables}
-use Rattle.keeper_core.specs.Knowing.{Known, LooksAtMost}
-use Rattle.keeper_core.specs.Leaving.{Ended, done, failed, starved, refused, of_store_fault, ended, KeepsTold, Leaves}
-use Rattle.keeper_core.specs.Stepping.{WhereTold, LeavesBy, IsRefusal, IsReply, commits_unless}
+use Rattle.keeper_core.specs.Knowing.{Known}
+use Rattle.keeper_core.specs.Leaving.{Ended, done, refused, of_store_fault, KeepsTold, Leaves}
+use Rattle.keeper_core.specs.Stepping.{LeavesBy, IsRefusal, commits_unless}
 use Rattle.keeper_core.proofs.Leaving.{is_told, not_asked, read_and, then_any}
 use Rattle.keeper_core.proofs.Stepping.{was_told, reads_leave, call_leaves}
 use Rattle.ledger_rows.specs.declared.used_key.UsedKey.{UsedKey}

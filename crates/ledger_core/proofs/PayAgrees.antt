@@ -1,9 +1,9 @@
 -- From the rows that a payment reads to a part that agrees with the whole book.
-use Rattle.std.proofs.Common.{◌≡◌, ℕ, ◌+◌, ◌*◌, ◌<◌, ◌≤◌, ◌^◌, ◌==◌, ◌||◌, ◌&&◌, not, Bool, true, false, cond, nat_le, if◌then◌else◌, List, [], ◌∷◌, ◌++◌, length, Option, Some, None, refl, sym, ap, subst, ◌∙◌, arith, inl, inr}
+use Rattle.std.proofs.Common.{◌≡◌, ℕ, ◌+◌, ◌<◌, ◌≤◌, ◌^◌, ◌==◌, ◌||◌, ◌&&◌, not, Bool, true, false, if◌then◌else◌, List, [], ◌∷◌, length, Option, Some, None, refl, sym, ap, ◌∙◌, arith}
 use Rattle.std.specs.Option.{option_or, option_map, unwrap_or}
 use Rattle.std.specs.FinMap.{get}
 use Rattle.std.specs.Str.{bytes_eq}
-use Rattle.std.proofs.lemmas.Bool.{cases_Bool, or_parts, eqb-true, eqb-false}
+use Rattle.std.proofs.lemmas.Bool.{or_parts, eqb-true, eqb-false}
 use Rattle.std.proofs.lemmas.Slice.Eq.{bytes_eq-Decides}
 use Rattle.dh_base.specs.Amounts.{greatest_amount}
 use Rattle.dh_base.specs.declared.id.Id.{Id}
@@ -24,16 +24,15 @@ use Rattle.escrow_book.proofs.Whole.{grown}
 use Rattle.escrow_book.proofs.Rows.{good_rows}
 use Rattle.escrow_book.proofs.RowsFound.{free_is}
 use Rattle.escrow_book.proofs.Fitting.{no_fault_of_whole}
-use Rattle.escrow_book.proofs.Parts.{agree_after, same_pay_refusal}
+use Rattle.escrow_book.proofs.Parts.{agree_after}
 use Rattle.escrow_book.proofs.Steps.{base_of}
 use Rattle.escrow_book.proofs.Bounds.{free_within}
-use Rattle.keeper_core.specs.declared.store_fault.StoreFault.{StoreFault}
 use Rattle.keeper_core.specs.Tables.{Tables}
 use Rattle.ledger_rows.specs.declared.free_amount.FreeAmount.{FreeAmount}
 use Rattle.ledger_rows.specs.declared.entry.Entry.{Entry}
 use Rattle.ledger_rows.specs.RowKeys.{free_tab, free_key}
 use Rattle.ledger_rows.specs.RowValues.{free_in, free_text}
-use Rattle.ledger_rows.specs.RowReading.{row_of, row_at, form_refusal, amount_said, free_said, free_refusal, either_refusal}
+use Rattle.ledger_rows.specs.RowReading.{row_of, form_refusal, amount_said, free_said, free_refusal}
 use Rattle.ledger_rows.specs.Entries.{book_of}
 use Rattle.ledger_rows.specs.LedgerTables.{free_value, StandsFor}
 use Rattle.ledger_rows.proofs.ValuesSpelled.{spelled_free}
@@ -42,7 +41,7 @@ use Rattle.ledger_core.specs.declared.ledger_fault.LedgerFault.{LedgerFault}
 use Rattle.ledger_core.specs.declared.ledger_fault.LedgerFault.TheVariants.{Store}
 use Rattle.ledger_core.specs.declared.payment.Payment.{Payment}
 use Rattle.ledger_core.specs.LedgerStep.{Opened, first_of, by_book, acts_of, full}
-use Rattle.ledger_core.specs.Paying.{paying_rows, paying_part, paid_part, part_refusal, amounts_refusal, sender_has, receiver_has, rows_refusal, payment_refusal, payment_step_refusal}
+use Rattle.ledger_core.specs.Paying.{paying_rows, paying_part, paid_part, part_refusal, sender_has, receiver_has, rows_refusal, payment_refusal, payment_step_refusal}
 
 -- ---- what a row of a history says
 

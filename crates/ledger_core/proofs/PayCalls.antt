@@ -1,10 +1,8 @@
 -- A payment by the rows that it reads: what each of its endings answers and leaves.
-use Rattle.std.proofs.Common.{◌≡◌, ℕ, ◌+◌, ◌≤◌, ◌==◌, ◌||◌, Bool, true, false, if◌then◌else◌, List, [], ◌∷◌, Option, Some, None, is_some, IfSome, IsSome, Result, Ok, Err, refl, sym, ap, subst, ◌∙◌, arith}
+use Rattle.std.proofs.Common.{◌≡◌, ℕ, ◌==◌, ◌||◌, Bool, true, false, if◌then◌else◌, List, [], ◌∷◌, Option, Some, None, is_some, IfSome, IsSome, Ok, Err, sym, ap, subst, ◌∙◌, arith}
 use Rattle.std.specs.Option.{option_map, option_or, unwrap_or}
 use Rattle.dh_base.specs.Ids.{same_id}
-use Rattle.escrow_book.specs.declared.fault.BookFault.{BookFault}
 use Rattle.escrow_book.specs.declared.fault.BookFault.TheVariants as book
-use Rattle.escrow_book.specs.Refused.{zero_or_self}
 use Rattle.keeper_core.specs.declared.change.Change.{Change}
 use Rattle.keeper_core.specs.declared.keep_fault.KeepFault.{KeepFault}
 use Rattle.keeper_core.specs.declared.keep_fault.KeepFault.TheVariants as keep
@@ -13,18 +11,16 @@ use Rattle.keeper_core.specs.declared.store_fault.StoreFault.TheVariants as stor
 use Rattle.keeper_core.specs.StoreFaults.{store_fault_of}
 use Rattle.keeper_core.specs.Tables.{Tables}
 use Rattle.keeper_core.specs.Knowing.{Known, LooksAtMost}
-use Rattle.keeper_core.specs.Leaving.{Ended, done, failed, starved, refused, of_store_fault, of_keep_fault, ended, KeepsTold, Leaves}
-use Rattle.keeper_core.specs.Stepping.{WhereTold, LeavesBy, IsRefusal, IsReply, commits_unless}
-use Rattle.keeper_core.proofs.Leaving.{is_told, not_told, not_asked, read_and, handed_on, keeper_not_done}
+use Rattle.keeper_core.specs.Leaving.{Ended, done, failed, starved, refused, of_store_fault, of_keep_fault, Leaves}
+use Rattle.keeper_core.specs.Stepping.{LeavesBy, IsRefusal, commits_unless}
+use Rattle.keeper_core.proofs.Leaving.{not_asked, read_and, handed_on}
 use Rattle.keeper_core.proofs.Stepping.{was_told, reads_leave, call_leaves}
 use Rattle.ledger_rows.specs.RowReading.{Reads, LacksForm, pair_of, both_said, either_refusal, free_said, free_refusal}
-use Rattle.ledger_rows.proofs.RowReads.{look_keeps}
 use Rattle.ledger_core.specs.declared.ledger_fault.LedgerFault.{LedgerFault}
 use Rattle.ledger_core.specs.declared.ledger_fault.LedgerFault.TheVariants.{BadEnvelope, BadAct, KeyReused, WrongLedger, BadDeal, WrongHouse, UnknownDeal, NotAParty, DealsFull, DealSettled, WrongTurn, ZeroOrSelf, Short, LedgerFull, Store}
 use Rattle.ledger_core.specs.declared.payment.Payment.{Payment}
 use Rattle.ledger_core.specs.LedgerFaults.{of_ledger_fault}
 use Rattle.ledger_core.specs.LedgerStep.{first_of, by_book, full}
-use Rattle.ledger_core.specs.Once.{ByRows}
 use Rattle.ledger_core.specs.Paying.{IsRefusedBy, rows_refusal, sender_has, receiver_has, amounts_refusal, payment_refusal, changes_with, payment_batches, changes_refusal, PaysByRows}
 
 -- ---- refusals

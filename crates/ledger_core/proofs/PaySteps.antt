@@ -1,14 +1,12 @@
 -- A payment by the rows is the ledger's step.
-use Rattle.std.proofs.Common.{◌≡◌, ℕ, ◌+◌, ◌*◌, ◌<◌, ◌≤◌, ◌^◌, Bool, true, false, cond, nat_le, if◌then◌else◌, List, [], ◌∷◌, ◌++◌, length, Option, Some, None, Result, refl, sym, ap, subst, ◌∙◌, arith}
-use Rattle.std.specs.Option.{option_or, option_map}
-use Rattle.std.specs.List.{count_by}
+use Rattle.std.proofs.Common.{◌≡◌, ℕ, ◌+◌, ◌<◌, ◌^◌, cond, List, [], ◌∷◌, ◌++◌, length, Option, Some, None, Result, refl, sym, ap, subst, ◌∙◌, arith}
+use Rattle.std.specs.Option.{option_map}
 use Rattle.std.specs.FinMap.{get}
 use Rattle.std.proofs.lemmas.List.{length-append}
 use Rattle.std.proofs.lemmas.List.Sums.{sum_by-append}
 use Rattle.dh_base.specs.declared.id.Id.{Id}
 use Rattle.act_text.specs.declared.act.Act.TheVariants.{Pay}
 use Rattle.escrow_book.specs.declared.change.Change.TheVariants.{Paid}
-use Rattle.escrow_book.specs.declared.fault.BookFault.{BookFault}
 use Rattle.escrow_book.specs.History.{History, with_change, free_of}
 use Rattle.escrow_book.specs.Reached.{IsReached}
 use Rattle.escrow_book.specs.Refused.{pay_refusal}
@@ -18,7 +16,7 @@ use Rattle.keeper_core.specs.Tables.{Tables}
 use Rattle.keeper_core.specs.Batches.{after_batch, after_change}
 use Rattle.keeper_core.specs.Knowing.{Known}
 use Rattle.keeper_core.specs.Leaving.{after_batches}
-use Rattle.keeper_core.specs.Stepping.{WhereTold, IsReply, AtMostOne, Backs, Steps}
+use Rattle.keeper_core.specs.Stepping.{Backs, Steps}
 use Rattle.keeper_core.proofs.Stepping.{steps}
 use Rattle.ledger_rows.specs.declared.entry.Entry.{Entry}
 use Rattle.ledger_rows.specs.declared.entry.Entry.TheVariants.{Act}
@@ -30,12 +28,11 @@ use Rattle.ledger_rows.proofs.Cells.{change_at, free_at}
 use Rattle.ledger_rows.proofs.Histories.{one_act_more}
 use Rattle.ledger_rows.proofs.PaymentsStand.{payment_stands}
 use Rattle.ledger_core.specs.declared.ledger_fault.LedgerFault.{LedgerFault}
-use Rattle.ledger_core.specs.declared.ledger_fault.LedgerFault.TheVariants.{LedgerFull}
 use Rattle.ledger_core.specs.declared.payment.Payment.{Payment}
 use Rattle.ledger_core.specs.LedgerFaults.{of_ledger_fault, ledger_fault_of}
 use Rattle.ledger_core.specs.LedgerStep.{Opened, first_of, by_book, most_acts, is_act, acts_of, full}
-use Rattle.ledger_core.specs.LedgerState.{form_tab, form_key, form_text, IsState}
-use Rattle.ledger_core.specs.Paying.{sender_has, receiver_has, payment_refusal, payment_batches, changes_with, IsPaymentOf, payment_step_refusal, PaysByRows, PaysByStep}
+use Rattle.ledger_core.specs.LedgerState.{form_tab, form_key, IsState}
+use Rattle.ledger_core.specs.Paying.{sender_has, receiver_has, payment_refusal, payment_batches, changes_with, IsPaymentOf, payment_step_refusal, PaysByRows}
 use Rattle.ledger_core.proofs.PayCalls.{never_done}
 use Rattle.ledger_core.proofs.PayAgrees.{refusal_is, behind_is}
 

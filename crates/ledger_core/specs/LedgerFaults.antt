@@ -1,5 +1,5 @@
 -- What the refusals of a ledger tell, and how a call ends by them.
-use Rattle.std.specs.Prelude.{ℕ, List, [], ◌∷◌, codes}
+use Rattle.std.specs.Prelude.{List, [], ◌∷◌, codes}
 use Rattle.dh_base.specs.Refusals.{Told, told_of, field_of}
 use Rattle.dh_base.specs.declared.refusal.FieldValue.TheVariants.{Number, Hash, Called, Ending}
 use Rattle.key_ring.specs.EnvFaults.{env_fault_told}

@@ -1,5 +1,5 @@
 -- The step of a ledger: what it replies to an act by its history, and the history behind it.
-use Rattle.std.specs.Prelude.{ℕ, ◌≡◌, ◌+◌, Bool, true, false, nat_le, if◌then◌else◌, List, [], ◌∷◌, ◌++◌, length, Option, Some, None, is_some, IfSome, Result, Ok, Err}
+use Rattle.std.specs.Prelude.{ℕ, ◌≡◌, ◌+◌, Bool, true, false, nat_le, if◌then◌else◌, List, [], ◌∷◌, ◌++◌, length, Option, Some, None, is_some, Result, Ok, Err}
 use Rattle.std.specs.List.{count_by}
 use Rattle.std.specs.Option.{option_map, option_or}
 use Rattle.std.specs.Str.{bytes_eq}
@@ -8,7 +8,6 @@ use Rattle.dh_base.specs.Ids.{same_id}
 use Rattle.act_text.specs.declared.act.Act.{Act}
 use Rattle.act_text.specs.declared.act.Act.TheVariants.{Register, Pay, Escrow, Transfer}
 use Rattle.act_text.specs.declared.act_fault.ActFault.{ActFault}
-use Rattle.act_text.specs.declared.act_fault.ActFault.TheVariants as act_fault
 use Rattle.act_text.specs.declared.office.Office.TheVariants.{Ledger}
 use Rattle.act_text.specs.ActReading.{act_of}
 use Rattle.deal_core.specs.declared.deal_fault.DealFault.{DealFault}
@@ -26,9 +25,9 @@ use Rattle.key_ring.specs.Saying.{Says}
 use Rattle.ledger_rows.specs.declared.entry.Entry.{Entry}
 use Rattle.ledger_rows.specs.declared.entry.Entry.TheVariants.{Act as Accepted, Settlement}
 use Rattle.ledger_rows.specs.declared.used_key.UsedKey.{UsedKey}
-use Rattle.ledger_rows.specs.Entries.{digest_of, registered_by, registration_of, used_of, book_of}
+use Rattle.ledger_rows.specs.Entries.{digest_of, registration_of, used_of, book_of}
 use Rattle.ledger_core.specs.declared.ledger_fault.LedgerFault.{LedgerFault}
-use Rattle.ledger_core.specs.declared.ledger_fault.LedgerFault.TheVariants.{BadEnvelope, BadAct, KeyReused, WrongLedger, BadDeal, WrongHouse, NotAParty, DealsFull, LedgerFull, Store}
+use Rattle.ledger_core.specs.declared.ledger_fault.LedgerFault.TheVariants.{BadEnvelope, BadAct, KeyReused, WrongLedger, BadDeal, WrongHouse, NotAParty, DealsFull, LedgerFull}
 use Rattle.ledger_core.specs.LedgerFaults.{ledger_fault_of}
 
 -- Which ledger it is: its name, the id of its house, its opening rows, and the identity that its

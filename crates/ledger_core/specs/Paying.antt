@@ -1,6 +1,6 @@
 -- What a ledger replies to a payment by the rows that it reads, and what it commits.
-use Rattle.std.specs.Prelude.{ℕ, ◌≡◌, ◌+◌, ◌<◌, ◌^◌, ◌==◌, if◌then◌else◌, List, [], ◌∷◌, ◌++◌, length, Option, Some, None, IsTrue, Result, Ok}
-use Rattle.std.specs.Option.{option_map, option_or, unwrap_or}
+use Rattle.std.specs.Prelude.{ℕ, ◌≡◌, ◌+◌, ◌<◌, ◌^◌, ◌==◌, if◌then◌else◌, List, [], ◌∷◌, ◌++◌, length, Option, Some, IsTrue, Result, Ok}
+use Rattle.std.specs.Option.{option_map, unwrap_or}
 use Rattle.dh_base.specs.declared.id.Id.{Id}
 use Rattle.dh_base.specs.Names.{is_name}
 use Rattle.act_text.specs.declared.act.Act.TheVariants.{Pay}
@@ -15,15 +15,13 @@ use Rattle.escrow_book.specs.History.{History, with_change, free_of}
 use Rattle.escrow_book.specs.Refused.{zero_or_self, pay_refusal}
 use Rattle.escrow_book.specs.PartRows.{no_rows, first_fault, part_of}
 use Rattle.keeper_core.specs.declared.change.Change.{Change}
-use Rattle.keeper_core.specs.declared.store_fault.StoreFault.{StoreFault}
 use Rattle.keeper_core.specs.declared.store_fault.StoreFault.TheVariants as store
-use Rattle.keeper_core.specs.Knowing.{Known, LooksAtMost}
-use Rattle.keeper_core.specs.Leaving.{ended}
-use Rattle.keeper_core.specs.Stepping.{WhereTold, LeavesBy, IsReply, Backs, Steps, commits_unless}
+use Rattle.keeper_core.specs.Knowing.{Known}
+use Rattle.keeper_core.specs.Stepping.{Backs, Steps}
 use Rattle.keeper_core.specs.StoreFaults.{bad_row_of}
 use Rattle.keeper_core.specs.Tables.{Tables}
 use Rattle.ledger_rows.specs.RowKeys.{free_tab, free_key}
-use Rattle.ledger_rows.specs.RowReading.{either_refusal, both_said, free_said, free_refusal}
+use Rattle.ledger_rows.specs.RowReading.{either_refusal, free_said, free_refusal}
 use Rattle.ledger_rows.specs.declared.entry.Entry.{Entry}
 use Rattle.ledger_rows.specs.declared.entry.Entry.TheVariants.{Act}
 use Rattle.ledger_rows.specs.Entries.{digest_of, book_of, used_of}

@@ -1,8 +1,7 @@
 -- What a change of a ledger's rows leaves at each cell.
-use Rattle.std.proofs.Common.{◌≡◌, ℕ, ◌==◌, ◌&&◌, Bool, true, false, cond, if◌then◌else◌, List, [], ◌∷◌, Option, Some, None, refl, sym, ap, ◌∙◌, inl, inr, ◌⊎◌}
+use Rattle.std.proofs.Common.{◌≡◌, ℕ, ◌==◌, ◌&&◌, Bool, true, false, cond, if◌then◌else◌, List, Some, None, refl, sym, ◌∙◌}
 use Rattle.std.specs.Ordering.{eq_by_cmp}
 use Rattle.std.specs.FinMap.{get, get-insert, get-remove}
-use Rattle.std.proofs.lemmas.Bool.{cases_Bool}
 use Rattle.dh_base.specs.declared.id.Id.{Id}
 use Rattle.keeper_core.specs.declared.change.Change.{Change}
 use Rattle.keeper_core.specs.declared.change.Change.TheVariants.{Put, Delete}

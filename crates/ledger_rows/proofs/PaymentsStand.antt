@@ -1,10 +1,7 @@
 -- Tables stand for the history with an accepted payment, once its changes are made.
-use Rattle.std.proofs.Common.{◌≡◌, ℕ, ◌+◌, ◌<◌, ◌^◌, ◌&&◌, Bool, true, false, cond, if◌then◌else◌, List, [], ◌∷◌, ◌++◌, map, length, Option, Some, None, Result, Ok, refl, sym, ap, subst, ◌∙◌, arith, IsTrue}
-use Rattle.std.specs.Int.{w64}
-use Rattle.std.specs.Str.{bytes_eq}
+use Rattle.std.proofs.Common.{◌≡◌, ℕ, ◌+◌, ◌<◌, ◌^◌, Bool, true, false, if◌then◌else◌, List, [], ◌∷◌, ◌++◌, length, None, Result, Ok, refl, sym, ap, ◌∙◌, arith}
 use Rattle.std.specs.FinMap.{get}
 use Rattle.dh_base.specs.declared.id.Id.{Id}
-use Rattle.dh_base.specs.Ids.{same_id}
 use Rattle.dh_base.specs.Names.{is_name}
 use Rattle.act_text.specs.declared.act.Act.{Act}
 use Rattle.act_text.specs.declared.act.Act.TheVariants.{Pay}
@@ -23,15 +20,13 @@ use Rattle.escrow_book.proofs.Parts.{free_untouched, if_commit_untouched, if_abo
 use Rattle.keeper_core.specs.declared.change.Change.{Change}
 use Rattle.keeper_core.specs.Tables.{Cell, Tables}
 use Rattle.keeper_core.specs.Batches.{after_batch, after_change}
-use Rattle.keeper_core.specs.NumberedRows.{IsNumbered}
 use Rattle.ledger_rows.specs.declared.entry.Entry.{Entry}
 use Rattle.ledger_rows.specs.declared.entry.Entry.TheVariants.{Act as Accepted}
 use Rattle.ledger_rows.specs.RowKeys.{free_tab, deal_tab, hold_tab, moves_tab, used_tab, entry_tab, free_key, used_key, first_id, asset_in}
-use Rattle.ledger_rows.specs.RowValues.{used_text, entry_text}
 use Rattle.ledger_rows.specs.RowChanges.{free_change, used_change, entry_change}
 use Rattle.ledger_rows.specs.Entries.{registered_by_act, registered_by, book_of}
 use Rattle.ledger_rows.specs.LedgerTables.{free_value, free_row, hold_row, moves_row, deal_row, used_row, StandsFor}
-use Rattle.ledger_rows.specs.ActChanges.{IsNew, act_changes, payment_changes, PaymentStands}
+use Rattle.ledger_rows.specs.ActChanges.{IsNew, act_changes, payment_changes}
 use Rattle.ledger_rows.proofs.Cells.{same_cell, cell_is, change_at, free_at, picked, same_rows}
 use Rattle.ledger_rows.proofs.RowsKept.{free_row_is, kept_free, apart, kept_hold, kept_moves, kept_deal, used_with, used_here, used_elsewhere, entry_put}
 use Rattle.ledger_rows.proofs.Histories.{one_act_more}

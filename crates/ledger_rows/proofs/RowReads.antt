@@ -1,6 +1,6 @@
 -- What reading rows answers and leaves.
-use Rattle.std.proofs.Common.{◌≡◌, ℕ, ◌+◌, ◌≤◌, Bool, true, false, List, [], Option, Some, None, IfSome, IsSome, Result, Ok, Err, refl, sym, ap, subst, ◌∙◌, arith}
-use Rattle.std.specs.Option.{option_map, option_or, option_and_then}
+use Rattle.std.proofs.Common.{◌≡◌, ℕ, ◌+◌, List, [], Option, Some, None, IfSome, IsSome, Ok, Err, refl, sym, ap, subst, ◌∙◌, arith}
+use Rattle.std.specs.Option.{option_map, option_or}
 use Rattle.std.specs.FinMap.{get}
 use Rattle.keeper_core.specs.declared.row.Row.{Row}
 use Rattle.keeper_core.specs.declared.store_fault.StoreFault.{StoreFault}
@@ -8,11 +8,11 @@ use Rattle.keeper_core.specs.Tables.{Tables}
 use Rattle.keeper_core.specs.Keeping.{AnswersByMap}
 use Rattle.keeper_core.specs.Knowing.{Known, LooksAtMost}
 use Rattle.keeper_core.specs.Leaving.{Ended, done, failed, starved, refused, of_store_fault, KeepsTold, Leaves}
-use Rattle.keeper_core.specs.Stepping.{WhereTold, IsRefusal, IsReply}
-use Rattle.keeper_core.specs.StoreFaults.{bad_row_of, IsBadRow, HasCause}
-use Rattle.keeper_core.proofs.Leaving.{applies_same, is_told, not_told, if_some, read_and, then_read, then_any, not_asked}
+use Rattle.keeper_core.specs.Stepping.{IsRefusal}
+use Rattle.keeper_core.specs.StoreFaults.{bad_row_of}
+use Rattle.keeper_core.proofs.Leaving.{applies_same, is_told, not_told, if_some, read_and, then_read, then_any}
 use Rattle.keeper_core.proofs.Stepping.{was_told}
-use Rattle.ledger_rows.specs.RowReading.{row_of, row_at, form_refusal, Reads, LacksFormAt, ReadsRow, pair_of, both_said, either_refusal}
+use Rattle.ledger_rows.specs.RowReading.{row_of, form_refusal, Reads, ReadsRow, pair_of, both_said, either_refusal}
 
 -- what holds of the map after a look holds of the map before it
 pub where_told : (P : Tables → Type 0) (before after : Option Tables) → KeepsTold before after → IfSome after P → IfSome after (λ _. IfSome before P)

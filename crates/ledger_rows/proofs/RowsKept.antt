@@ -1,9 +1,9 @@
 -- The rows of a history at keys that a change doesn't touch, and at those of its own.
-use Rattle.std.proofs.Common.{◌≡◌, ℕ, ◌+◌, ◌<◌, ◌^◌, ◌==◌, ◌&&◌, Bool, true, false, cond, if◌then◌else◌, List, [], ◌∷◌, ◌++◌, map, length, take, drop, Option, Some, None, refl, sym, ap, subst, ◌∙◌, arith, inl, inr, ◌⊎◌}
-use Rattle.std.specs.Int.{w64, byte_len, to_be_bytes}
+use Rattle.std.proofs.Common.{◌≡◌, ℕ, ◌+◌, ◌<◌, ◌^◌, ◌==◌, ◌&&◌, Bool, true, false, if◌then◌else◌, List, [], ◌∷◌, ◌++◌, map, length, Option, Some, None, refl, sym, ap, subst, ◌∙◌, arith, inl, inr}
+use Rattle.std.specs.Int.{w64, to_be_bytes}
 use Rattle.std.specs.Str.{bytes_eq}
 use Rattle.std.specs.Option.{option_map, option_or}
-use Rattle.std.specs.FinMap.{get, insert}
+use Rattle.std.specs.FinMap.{insert}
 use Rattle.std.proofs.lemmas.Bool.{cases_Bool, and_parts, eqb-true}
 use Rattle.std.proofs.lemmas.List.{map-append, length-map}
 use Rattle.std.proofs.lemmas.Slice.Eq.{bytes_eq-Decides}
@@ -12,18 +12,18 @@ use Rattle.dh_base.specs.Ids.{same_id}
 use Rattle.dh_base.specs.Names.{is_name}
 use Rattle.dh_base.proofs.SameIds.{id_from_same, same_id-self}
 use Rattle.escrow_book.specs.History.{History, free_of, if_commit_of, if_abort_of, moves_of, settlement_of}
-use Rattle.keeper_core.specs.Tables.{Cell, Tables}
+use Rattle.keeper_core.specs.Tables.{Tables}
 use Rattle.keeper_core.specs.NumberedRows.{IsNumbered}
 use Rattle.keeper_core.proofs.Batched.{at_itself}
 use Rattle.keeper_core.proofs.NumberedOn.{numbers_on}
 use Rattle.ledger_rows.specs.declared.entry.Entry.{Entry}
-use Rattle.ledger_rows.specs.declared.entry.Entry.TheVariants.{Act, Settlement}
+use Rattle.ledger_rows.specs.declared.entry.Entry.TheVariants.{Act}
 use Rattle.ledger_rows.specs.declared.used_key.UsedKey.{UsedKey}
 use Rattle.ledger_rows.specs.RowKeys.{free_tab, used_tab, entry_tab, free_key, used_key, entry_key, first_id, behind_id, last_id, asset_in, number_in, is_free_key, is_hold_key, is_used_key}
-use Rattle.ledger_rows.specs.RowValues.{registration_text, moves_text, used_text, entry_text}
+use Rattle.ledger_rows.specs.RowValues.{registration_text, used_text, entry_text}
 use Rattle.ledger_rows.specs.Entries.{digest_of, registered_by, registration_of, signed_by, used_from, used_of}
-use Rattle.ledger_rows.specs.LedgerTables.{free_value, free_row, hold_of, hold_value, hold_row, moves_value, moves_row, deal_row, used_row}
-use Rattle.ledger_rows.proofs.Cells.{same_cell, cell_is}
+use Rattle.ledger_rows.specs.LedgerTables.{free_value, free_row, hold_value, hold_row, moves_value, moves_row, deal_row, used_row}
+use Rattle.ledger_rows.proofs.Cells.{same_cell}
 use Rattle.ledger_rows.proofs.KeysSpelled.{free_key_is, free_parts, used_key_is, used_parts}
 
 -- ---- free amounts

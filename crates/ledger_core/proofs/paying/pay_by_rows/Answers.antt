@@ -1,5 +1,4 @@
-use Rattle.std.proofs.Common.{rules, ◌≡◌, ◌∙◌, ◌==◌, ◌||◌, Bool, true, false, Result, Err, sym, subst}
-use Rattle.dh_base.specs.Ids.{same_id}
+use Rattle.std.proofs.Common.{rules, ◌≡◌, ◌∙◌, Result, Err, sym, subst}
 use Rattle.keeper_core.specs.StoreFaults.{store_fault_of}
 use Rattle.ledger_rows.specs.ActChanges.{act_changes}
 use Rattle.ledger_core.specs.declared.ledger_fault.LedgerFault.{LedgerFault}

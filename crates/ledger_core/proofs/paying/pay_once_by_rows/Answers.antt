@@ -1,5 +1,4 @@
-use Rattle.std.proofs.Common.{rules, ◌≡◌, ◌∙◌, ap, Option, Some, None, Result, Err, Ok, sym, subst, ℕ}
-use Rattle.keeper_core.specs.declared.store_fault.StoreFault.{StoreFault}
+use Rattle.std.proofs.Common.{rules, ◌≡◌, Option, Some, None, Result, Err, Ok, sym, subst, ℕ}
 use Rattle.ledger_rows.specs.declared.used_key.UsedKey.{UsedKey}
 use Rattle.ledger_rows.specs.RowReading.{Reads, LacksForm, used_said, used_refusal}
 use Rattle.ledger_rows.specs.ActChanges.{act_changes}
