@@ -5,4 +5,6 @@ pub mod KeysSpelled
 pub mod Cells
 pub mod RowsKept
 pub mod Histories
+pub mod ActsStand
 pub mod PaymentsStand
+pub mod EscrowsStand

@@ -1,5 +1,5 @@
 -- Tables stand for the history with an accepted payment, once its changes are made.
-use Rattle.std.proofs.Common.{◌≡◌, ℕ, ◌+◌, ◌<◌, ◌^◌, Bool, true, false, if◌then◌else◌, List, [], ◌∷◌, ◌++◌, length, None, Result, Ok, refl, sym, ap, ◌∙◌, arith}
+use Rattle.std.proofs.Common.{◌≡◌, ℕ, ◌+◌, ◌<◌, ◌^◌, Bool, true, false, cond, if◌then◌else◌, List, [], ◌∷◌, ◌++◌, length, None, Result, Ok, refl, sym, ap, ◌∙◌, arith}
 use Rattle.std.specs.FinMap.{get}
 use Rattle.dh_base.specs.declared.id.Id.{Id}
 use Rattle.dh_base.specs.Names.{is_name}
@@ -29,7 +29,7 @@ use Rattle.ledger_rows.specs.LedgerTables.{free_value, free_row, hold_row, moves
 use Rattle.ledger_rows.specs.ActChanges.{IsNew, act_changes, payment_changes}
 use Rattle.ledger_rows.proofs.Cells.{same_cell, cell_is, change_at, free_at, picked, same_rows}
 use Rattle.ledger_rows.proofs.RowsKept.{free_row_is, kept_free, apart, kept_hold, kept_moves, kept_deal, used_with, used_here, used_elsewhere, entry_put}
-use Rattle.ledger_rows.proofs.Histories.{one_act_more}
+use Rattle.ledger_rows.proofs.ActsStand.{Prepared, act_stands}
 
 no_payment : (here : Bool) (n : ℕ) → here ≡ false → (if here then n else 0) + 0 ≡ 0
 no_payment false n e = omega arith
@@ -47,27 +47,12 @@ module _ (tables : Tables) (opening : List Row) (entries : List Entry) (from : I
   abbrev later : History
   later = with_change book change
 
-  abbrev entry : Entry
-  entry = Accepted from q message
-
-  more : book_of opening (entries ++ entry ∷ []) ≡ later
-  more = one_act_more opening entries from q message (Pay house ledger to asset amount) reads
-
   -- the tables, change by change
   abbrev one : Tables
   one = after_change (free_change from asset (free_of later from asset)) tables
 
   abbrev two : Tables
   two = after_change (free_change to asset (free_of later to asset)) one
-
-  abbrev used : Change
-  used = used_change from q (used_with (length entries + 1) message)
-
-  abbrev three : Tables
-  three = after_change used two
-
-  abbrev last : Change
-  last = entry_change (length entries + 1) entry
 
   -- ---- free amounts
 
@@ -86,46 +71,20 @@ module _ (tables : Tables) (opening : List Row) (entries : List Entry) (from : I
       (λ not_to. free_at from asset (free_of later from asset) tables (free_tab, key) ∙ picked _ _ _ _ (λ is. at_key key from new.wide is)
       (λ not_from. stands.free key ∙ sym (stays key not_from not_to)))
 
-  -- ---- the other tables
+  others : (cell : Cell) → same_cell cell (free_tab, free_key to asset) ≡ false → same_cell cell (free_tab, free_key from asset) ≡ false → get two cell ≡ get tables cell
+  others cell not_to not_from =
+      free_at to asset (free_of later to asset) one cell ∙ ap (λ (b : Bool). cond b (free_value (free_of later to asset)) (get one cell)) not_to
+      ∙ free_at from asset (free_of later from asset) tables cell ∙ ap (λ (b : Bool). cond b (free_value (free_of later from asset)) (get tables cell)) not_from
 
-  deals_two : (key : List ℕ) → get two (deal_tab, key) ≡ get tables (deal_tab, key)
-  deals_two key = free_at to asset (free_of later to asset) one (deal_tab, key) ∙ free_at from asset (free_of later from asset) tables (deal_tab, key)
-
-  holds_two : (key : List ℕ) → get two (hold_tab, key) ≡ get tables (hold_tab, key)
-  holds_two key = free_at to asset (free_of later to asset) one (hold_tab, key) ∙ free_at from asset (free_of later from asset) tables (hold_tab, key)
-
-  moves_two : (key : List ℕ) → get two (moves_tab, key) ≡ get tables (moves_tab, key)
-  moves_two key = free_at to asset (free_of later to asset) one (moves_tab, key) ∙ free_at from asset (free_of later from asset) tables (moves_tab, key)
-
-  used_two : (key : List ℕ) → get two (used_tab, key) ≡ get tables (used_tab, key)
-  used_two key = free_at to asset (free_of later to asset) one (used_tab, key) ∙ free_at from asset (free_of later from asset) tables (used_tab, key)
-
-  entries_three : (key : List ℕ) → get three (entry_tab, key) ≡ get tables (entry_tab, key)
-  entries_three key = change_at used two (entry_tab, key) ∙ free_at to asset (free_of later to asset) one (entry_tab, key) ∙ free_at from asset (free_of later from asset) tables (entry_tab, key)
-
-  used_three : (key : List ℕ) → get three (used_tab, key) ≡ used_row (entries ++ entry ∷ []) key
-  used_three key =
-      change_at used two (used_tab, key) ∙ picked _ _ _ _
-      (λ is.
-      let e : key ≡ used_key from q = ap (λ (c : Cell). c.1) (cell_is (used_tab, key) (used_tab, used_key from q) is) in
-      sym (used_here entries from q message new.wide new.small new.unused) ∙ ap (λ (k : List ℕ). used_row (entries ++ entry ∷ []) k) (sym e))
-      (λ other. used_two key ∙ stands.used key ∙ sym (used_elsewhere entries from q message key other))
-
-  no_registration : (d : Id) → registered_by d entry ≡ None
-  no_registration d = ap (λ (r : Result Act ActFault). registered_by_act d from r) reads
-
-  pub payment_stands : StandsFor (after_batch (payment_changes from to asset (free_of later from asset) (free_of later to asset) (act_changes (length entries + 1) from q message)) tables) opening (entries ++ entry ∷ [])
-  payment_stands = record {
-    free = λ key. change_at last three (free_tab, key) ∙ change_at used two (free_tab, key) ∙ free_two key ∙ ap (λ (h : History). free_row h key) (sym more);
-    deals = λ key. change_at last three (deal_tab, key) ∙ change_at used two (deal_tab, key) ∙ deals_two key ∙ stands.deals key
-        ∙ sym (kept_deal book later entries entry key no_registration (λ d. settlement_kept book change d refl))
-        ∙ ap (λ (h : History). deal_row h (entries ++ entry ∷ []) key) (sym more);
-    holds = λ key. change_at last three (hold_tab, key) ∙ change_at used two (hold_tab, key) ∙ holds_two key ∙ stands.holds key
-        ∙ sym (kept_hold book later key (λ d p x. (if_commit_untouched book change d p x (omega arith) refl, if_abort_untouched book change d p x refl)))
-        ∙ ap (λ (h : History). hold_row h key) (sym more);
-    moves = λ key. change_at last three (moves_tab, key) ∙ change_at used two (moves_tab, key) ∙ moves_two key ∙ stands.moves key
-        ∙ sym (kept_moves book later key (λ d p. moves_untouched book change d p refl))
-        ∙ ap (λ (h : History). moves_row h key) (sym more);
-    used = λ key. change_at last three (used_tab, key) ∙ used_three key;
-    numbered = entry_put entries entry three few (same_rows entry_tab tables three entries_three ∙ stands.numbered);
+  prepared : Prepared tables two later
+  prepared = record {
+    free = free_two;
+    holds = λ key. others (hold_tab, key) refl refl ∙ stands.holds key ∙ sym (kept_hold book later key (λ d p x. (if_commit_untouched book change d p x (omega arith) refl, if_abort_untouched book change d p x refl)));
+    moves = λ key. others (moves_tab, key) refl refl ∙ stands.moves key ∙ sym (kept_moves book later key (λ d p. moves_untouched book change d p refl));
+    deals = λ key. others (deal_tab, key) refl refl;
+    used = λ key. others (used_tab, key) refl refl;
+    entries = λ key. others (entry_tab, key) refl refl;
   }
+
+  pub payment_stands : StandsFor (after_batch (payment_changes from to asset (free_of later from asset) (free_of later to asset) (act_changes (length entries + 1) from q message)) tables) opening (entries ++ Accepted from q message ∷ [])
+  payment_stands = act_stands tables two opening entries from q message (Pay house ledger to asset amount) change stands new few reads refl (λ d. refl) (λ d. refl) prepared

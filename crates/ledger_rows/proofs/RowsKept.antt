@@ -19,12 +19,13 @@ use Rattle.keeper_core.proofs.NumberedOn.{numbers_on}
 use Rattle.ledger_rows.specs.declared.entry.Entry.{Entry}
 use Rattle.ledger_rows.specs.declared.entry.Entry.TheVariants.{Act}
 use Rattle.ledger_rows.specs.declared.used_key.UsedKey.{UsedKey}
-use Rattle.ledger_rows.specs.RowKeys.{free_tab, used_tab, entry_tab, free_key, used_key, entry_key, first_id, behind_id, last_id, asset_in, number_in, is_free_key, is_hold_key, is_used_key}
+use Rattle.ledger_rows.specs.declared.hold.Hold.{Hold}
+use Rattle.ledger_rows.specs.RowKeys.{free_tab, hold_tab, used_tab, entry_tab, free_key, hold_key, used_key, entry_key, first_id, behind_id, last_id, asset_in, number_in, is_free_key, is_hold_key, is_used_key}
 use Rattle.ledger_rows.specs.RowValues.{registration_text, used_text, entry_text}
 use Rattle.ledger_rows.specs.Entries.{digest_of, registered_by, registration_of, signed_by, used_from, used_of}
-use Rattle.ledger_rows.specs.LedgerTables.{free_value, free_row, hold_value, hold_row, moves_value, moves_row, deal_row, used_row}
+use Rattle.ledger_rows.specs.LedgerTables.{free_value, free_row, hold_of, hold_value, hold_row, moves_value, moves_row, deal_row, used_row}
 use Rattle.ledger_rows.proofs.Cells.{same_cell}
-use Rattle.ledger_rows.proofs.KeysSpelled.{free_key_is, free_parts, used_key_is, used_parts}
+use Rattle.ledger_rows.proofs.KeysSpelled.{free_key_is, free_parts, hold_key_is, hold_parts, used_key_is, used_parts}
 
 -- ---- free amounts
 
@@ -52,6 +53,38 @@ apart key q x good other = elim (cases_Bool (same_id (first_id key) q && bytes_e
       let asset = (bytes_eq-Decides (asset_in key) x).0 parts.1 in
       let is : key ≡ free_key q x = free_key_is key good ∙ (λ i. free_key (account i) (asset i)) in
       let there : same_cell (free_tab, key) (free_tab, free_key q x) ≡ true = ap (λ (k : List ℕ). same_cell (free_tab, key) (free_tab, k)) (sym is) ∙ at_itself (free_tab, key) in
+      absurd cc
+]
+
+-- ---- holds
+
+-- at the key of a deal, a party and an asset stand their amounts
+pub hold_row_is : (h : History) (d p : Id) (x : List ℕ) → length d.0 ≡ 32 → length p.0 ≡ 32 → is_name x ≡ true → hold_row h (hold_key d p x) ≡ hold_value (hold_of h d p x)
+hold_row_is h d p x wide wide' named =
+    let parts = hold_parts d p x wide wide' named in
+    rw parts.good (λ i. hold_value (hold_of h (parts.deal_is i) (parts.account_is i) (parts.asset_is i)))
+
+pub kept_hold_at : (h later : History) (key : List ℕ) → (is_hold_key key ≡ true → hold_of later (first_id key) (first_id (behind_id key)) (asset_in (behind_id key)) ≡ hold_of h (first_id key) (first_id (behind_id key)) (asset_in (behind_id key))) → hold_row later key ≡ hold_row h key
+kept_hold_at h later key same = go (is_hold_key key) same
+  where
+    go : (good : Bool) → (good ≡ true → hold_of later (first_id key) (first_id (behind_id key)) (asset_in (behind_id key)) ≡ hold_of h (first_id key) (first_id (behind_id key)) (asset_in (behind_id key))) →
+        (if good then hold_value (hold_of later (first_id key) (first_id (behind_id key)) (asset_in (behind_id key))) else None) ≡ (if good then hold_value (hold_of h (first_id key) (first_id (behind_id key)) (asset_in (behind_id key))) else None)
+    go true same = ap (λ (hold : Hold). hold_value hold) (same refl)
+    go false same = refl
+
+-- another key is another deal, another party or another asset
+pub apart_hold : (key : List ℕ) (d p : Id) (x : List ℕ) → is_hold_key key ≡ true → same_cell (hold_tab, key) (hold_tab, hold_key d p x) ≡ false →
+    (same_id (first_id key) d && (same_id (first_id (behind_id key)) p && bytes_eq (asset_in (behind_id key)) x)) ≡ false
+apart_hold key d p x good other = elim (cases_Bool (same_id (first_id key) d && (same_id (first_id (behind_id key)) p && bytes_eq (asset_in (behind_id key)) x))) [
+  | inr e ↦ e
+  | inl all ↦
+      let first = and_parts (same_id (first_id key) d) (same_id (first_id (behind_id key)) p && bytes_eq (asset_in (behind_id key)) x) all in
+      let second = and_parts (same_id (first_id (behind_id key)) p) (bytes_eq (asset_in (behind_id key)) x) first.1 in
+      let deal = id_from_same (first_id key) d first.0 in
+      let account = id_from_same (first_id (behind_id key)) p second.0 in
+      let asset = (bytes_eq-Decides (asset_in (behind_id key)) x).0 second.1 in
+      let is : key ≡ hold_key d p x = hold_key_is key good ∙ (λ i. hold_key (deal i) (account i) (asset i)) in
+      let there : same_cell (hold_tab, key) (hold_tab, hold_key d p x) ≡ true = ap (λ (k : List ℕ). same_cell (hold_tab, key) (hold_tab, k)) (sym is) ∙ at_itself (hold_tab, key) in
       absurd cc
 ]
 

@@ -2,22 +2,23 @@
 use Rattle.std.specs.Prelude.{ℕ, ◌≡◌, ◌+◌, ◌<◌, ◌^◌, List, [], ◌∷◌, ◌++◌, length, None, IsTrue, Ok}
 use Rattle.dh_base.specs.declared.id.Id.{Id}
 use Rattle.dh_base.specs.Names.{is_name}
-use Rattle.act_text.specs.declared.act.Act.TheVariants.{Pay}
+use Rattle.act_text.specs.declared.act.Act.TheVariants.{Pay, Escrow}
 use Rattle.act_text.specs.declared.office.Office.TheVariants.{Ledger}
 use Rattle.act_text.specs.ActReading.{act_of}
-use Rattle.escrow_book.specs.declared.change.Change.TheVariants.{Paid}
+use Rattle.escrow_book.specs.declared.change.Change.TheVariants.{Paid, Escrowed}
 use Rattle.escrow_book.specs.Opening.{Row}
 use Rattle.escrow_book.specs.History.{with_change, free_of}
 use Rattle.escrow_book.specs.Reached.{IsReached}
-use Rattle.escrow_book.specs.Refused.{pay_refusal}
+use Rattle.escrow_book.specs.Refused.{pay_refusal, escrow_refusal}
 use Rattle.keeper_core.specs.declared.change.Change.{Change}
 use Rattle.keeper_core.specs.Tables.{Tables}
 use Rattle.keeper_core.specs.Batches.{after_batch}
 use Rattle.ledger_rows.specs.declared.entry.Entry.{Entry}
 use Rattle.ledger_rows.specs.declared.entry.Entry.TheVariants.{Act}
-use Rattle.ledger_rows.specs.RowChanges.{free_change, used_change, entry_change}
+use Rattle.ledger_rows.specs.declared.hold.Hold.{Hold}
+use Rattle.ledger_rows.specs.RowChanges.{free_change, hold_change, used_change, entry_change}
 use Rattle.ledger_rows.specs.Entries.{digest_of, book_of, used_of}
-use Rattle.ledger_rows.specs.LedgerTables.{StandsFor}
+use Rattle.ledger_rows.specs.LedgerTables.{hold_of, StandsFor}
 
 -- The key has signed the act, which is the entry of that number.
 abbrev pub act_changes : ℕ → Id → ℕ → List ℕ → List Change
@@ -53,3 +54,25 @@ PaymentStands = (tables : Tables) (opening : List Row) (entries : List Entry)
     (payment_changes from to asset (free_of later from asset) (free_of later to asset)
     (act_changes (length entries + 1) from q message)) tables)
     opening (entries ++ Act from q message ∷ [])
+
+-- what the party can spend and what it owns in the deal behind an escrow, and the act
+abbrev pub escrow_changes : Id → Id → List ℕ → ℕ → Hold → List Change → List Change
+escrow_changes deal party asset free hold act =
+    free_change party asset free ∷ hold_change deal party asset hold ∷ act
+
+-- The same of an accepted escrow.
+abbrev pub EscrowStands : Type 0
+EscrowStands = (tables : Tables) (opening : List Row) (entries : List Entry)
+    (party : Id) (q : ℕ) (message : List ℕ)
+    (deal : Id) (ledger : List ℕ) (asset : List ℕ) (amount : ℕ) →
+    let book = book_of opening entries in
+    let later = with_change book (Escrowed deal party asset amount) in
+    StandsFor tables opening entries → IsReached book → IsNew entries party q →
+    act_of Ledger message ≡ Ok (Escrow deal ledger asset amount) →
+    length deal.0 ≡ 32 → IsTrue (is_name asset) → length entries < 2 ^ 63 →
+    escrow_refusal book deal party asset amount ≡ None →
+    StandsFor
+    (after_batch
+    (escrow_changes deal party asset (free_of later party asset) (hold_of later deal party asset)
+    (act_changes (length entries + 1) party q message)) tables)
+    opening (entries ++ Act party q message ∷ [])
