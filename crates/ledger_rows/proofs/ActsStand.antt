@@ -1,5 +1,5 @@
 -- What every accepted act but a registration does to tables that stand for a history: its key has signed, and it is the next entry.
-use Rattle.std.proofs.Common.{◌≡◌, ℕ, ◌+◌, ◌<◌, ◌^◌, List, [], ◌∷◌, ◌++◌, length, Option, None, Result, Ok, refl, sym, ap, ◌∙◌}
+use Rattle.std.proofs.Common.{◌≡◌, ℕ, ◌+◌, ◌<◌, ◌^◌, List, [], ◌∷◌, ◌++◌, length, None, Result, Ok, sym, ap, ◌∙◌}
 use Rattle.std.specs.FinMap.{get}
 use Rattle.dh_base.specs.declared.id.Id.{Id}
 use Rattle.act_text.specs.declared.act.Act.{Act}
@@ -20,7 +20,7 @@ use Rattle.ledger_rows.specs.RowChanges.{used_change, entry_change}
 use Rattle.ledger_rows.specs.Entries.{with_act, registered_by_act, registered_by, book_of}
 use Rattle.ledger_rows.specs.LedgerTables.{free_row, hold_row, moves_row, deal_row, used_row, StandsFor}
 use Rattle.ledger_rows.specs.ActChanges.{IsNew, act_changes}
-use Rattle.ledger_rows.proofs.Cells.{same_cell, cell_is, change_at, picked, same_rows}
+use Rattle.ledger_rows.proofs.Cells.{cell_is, change_at, picked, same_rows}
 use Rattle.ledger_rows.proofs.RowsKept.{kept_deal, used_with, used_here, used_elsewhere, entry_put}
 use Rattle.ledger_rows.proofs.Histories.{one_act_more}
 

@@ -8,3 +8,4 @@ pub mod Histories
 pub mod ActsStand
 pub mod PaymentsStand
 pub mod EscrowsStand
+pub mod TransfersStand

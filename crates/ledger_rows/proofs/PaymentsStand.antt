@@ -1,11 +1,9 @@
 -- Tables stand for the history with an accepted payment, once its changes are made.
-use Rattle.std.proofs.Common.{◌≡◌, ℕ, ◌+◌, ◌<◌, ◌^◌, Bool, true, false, cond, if◌then◌else◌, List, [], ◌∷◌, ◌++◌, length, None, Result, Ok, refl, sym, ap, ◌∙◌, arith}
+use Rattle.std.proofs.Common.{◌≡◌, ℕ, ◌+◌, ◌<◌, ◌^◌, Bool, true, false, cond, if◌then◌else◌, List, [], ◌∷◌, ◌++◌, length, None, Ok, refl, sym, ap, ◌∙◌, arith}
 use Rattle.std.specs.FinMap.{get}
 use Rattle.dh_base.specs.declared.id.Id.{Id}
 use Rattle.dh_base.specs.Names.{is_name}
-use Rattle.act_text.specs.declared.act.Act.{Act}
 use Rattle.act_text.specs.declared.act.Act.TheVariants.{Pay}
-use Rattle.act_text.specs.declared.act_fault.ActFault.{ActFault}
 use Rattle.act_text.specs.declared.office.Office.TheVariants.{Ledger}
 use Rattle.act_text.specs.ActReading.{act_of}
 use Rattle.escrow_book.specs.declared.change.Change.{Change as BookChange}
@@ -15,20 +13,18 @@ use Rattle.escrow_book.specs.History.{History, with_change, free_of}
 use Rattle.escrow_book.specs.Reached.{IsReached}
 use Rattle.escrow_book.specs.Refused.{pay_refusal}
 use Rattle.escrow_book.proofs.Whole.{grown}
-use Rattle.escrow_book.proofs.Lookups.{settlement_kept}
 use Rattle.escrow_book.proofs.Parts.{free_untouched, if_commit_untouched, if_abort_untouched, moves_untouched}
-use Rattle.keeper_core.specs.declared.change.Change.{Change}
 use Rattle.keeper_core.specs.Tables.{Cell, Tables}
 use Rattle.keeper_core.specs.Batches.{after_batch, after_change}
 use Rattle.ledger_rows.specs.declared.entry.Entry.{Entry}
 use Rattle.ledger_rows.specs.declared.entry.Entry.TheVariants.{Act as Accepted}
-use Rattle.ledger_rows.specs.RowKeys.{free_tab, deal_tab, hold_tab, moves_tab, used_tab, entry_tab, free_key, used_key, first_id, asset_in}
-use Rattle.ledger_rows.specs.RowChanges.{free_change, used_change, entry_change}
-use Rattle.ledger_rows.specs.Entries.{registered_by_act, registered_by, book_of}
-use Rattle.ledger_rows.specs.LedgerTables.{free_value, free_row, hold_row, moves_row, deal_row, used_row, StandsFor}
+use Rattle.ledger_rows.specs.RowKeys.{free_tab, deal_tab, hold_tab, moves_tab, used_tab, entry_tab, free_key, first_id, asset_in}
+use Rattle.ledger_rows.specs.RowChanges.{free_change}
+use Rattle.ledger_rows.specs.Entries.{book_of}
+use Rattle.ledger_rows.specs.LedgerTables.{free_value, free_row, StandsFor}
 use Rattle.ledger_rows.specs.ActChanges.{IsNew, act_changes, payment_changes}
-use Rattle.ledger_rows.proofs.Cells.{same_cell, cell_is, change_at, free_at, picked, same_rows}
-use Rattle.ledger_rows.proofs.RowsKept.{free_row_is, kept_free, apart, kept_hold, kept_moves, kept_deal, used_with, used_here, used_elsewhere, entry_put}
+use Rattle.ledger_rows.proofs.Cells.{same_cell, cell_is, free_at, picked}
+use Rattle.ledger_rows.proofs.RowsKept.{free_row_is, kept_free, apart, kept_hold, kept_moves}
 use Rattle.ledger_rows.proofs.ActsStand.{Prepared, act_stands}
 
 no_payment : (here : Bool) (n : ℕ) → here ≡ false → (if here then n else 0) + 0 ≡ 0

@@ -5,7 +5,7 @@ use Rattle.std.specs.Str.{bytes_eq}
 use Rattle.std.specs.Option.{option_map, option_or}
 use Rattle.std.specs.FinMap.{insert}
 use Rattle.std.proofs.lemmas.Bool.{cases_Bool, and_parts, eqb-true}
-use Rattle.std.proofs.lemmas.List.{map-append, length-map}
+use Rattle.std.proofs.lemmas.List.{map-append, length-map, take_at, drop_at, take-append-drop}
 use Rattle.std.proofs.lemmas.Slice.Eq.{bytes_eq-Decides}
 use Rattle.dh_base.specs.declared.id.Id.{Id}
 use Rattle.dh_base.specs.Ids.{same_id}
@@ -20,7 +20,7 @@ use Rattle.ledger_rows.specs.declared.entry.Entry.{Entry}
 use Rattle.ledger_rows.specs.declared.entry.Entry.TheVariants.{Act}
 use Rattle.ledger_rows.specs.declared.used_key.UsedKey.{UsedKey}
 use Rattle.ledger_rows.specs.declared.hold.Hold.{Hold}
-use Rattle.ledger_rows.specs.RowKeys.{free_tab, hold_tab, used_tab, entry_tab, free_key, hold_key, used_key, entry_key, first_id, behind_id, last_id, asset_in, number_in, is_free_key, is_hold_key, is_used_key}
+use Rattle.ledger_rows.specs.RowKeys.{free_tab, hold_tab, moves_tab, used_tab, entry_tab, free_key, hold_key, moves_key, used_key, entry_key, first_id, behind_id, last_id, asset_in, number_in, is_free_key, is_hold_key, is_used_key}
 use Rattle.ledger_rows.specs.RowValues.{registration_text, used_text, entry_text}
 use Rattle.ledger_rows.specs.Entries.{digest_of, registered_by, registration_of, signed_by, used_from, used_of}
 use Rattle.ledger_rows.specs.LedgerTables.{free_value, free_row, hold_of, hold_value, hold_row, moves_value, moves_row, deal_row, used_row}
@@ -98,6 +98,26 @@ kept_hold h later key same =
 
 pub kept_moves : (h later : History) (key : List ℕ) → ((d p : Id) → moves_of later d p ≡ moves_of h d p) → moves_row later key ≡ moves_row h key
 kept_moves h later key same = ap (λ (n : ℕ). moves_value n) (same (first_id key) (last_id key))
+
+-- at the key of a deal and a party stands the number of its transfers
+pub moves_row_is : (h : History) (d p : Id) → length d.0 ≡ 32 → moves_row h (moves_key d p) ≡ moves_value (moves_of h d p)
+moves_row_is h d p wide =
+    let deal : first_id (moves_key d p) ≡ d = ap (λ (t : List ℕ). record { 0 = t }) (take_at d.0 p.0 32 wide) in
+    let account : last_id (moves_key d p) ≡ p = ap (λ (t : List ℕ). record { 0 = t }) (drop_at d.0 p.0 32 wide) in
+    (λ i. moves_value (moves_of h (deal i) (account i)))
+
+-- another key is another deal or another party
+pub apart_moves : (key : List ℕ) (d p : Id) → same_cell (moves_tab, key) (moves_tab, moves_key d p) ≡ false → (same_id (first_id key) d && same_id (last_id key) p) ≡ false
+apart_moves key d p other = elim (cases_Bool (same_id (first_id key) d && same_id (last_id key) p)) [
+  | inr e ↦ e
+  | inl both ↦
+      let parts = and_parts (same_id (first_id key) d) (same_id (last_id key) p) both in
+      let deal = id_from_same (first_id key) d parts.0 in
+      let account = id_from_same (last_id key) p parts.1 in
+      let is : key ≡ moves_key d p = sym (take-append-drop 32 key) ∙ (λ i. moves_key (deal i) (account i)) in
+      let there : same_cell (moves_tab, key) (moves_tab, moves_key d p) ≡ true = ap (λ (k : List ℕ). same_cell (moves_tab, key) (moves_tab, k)) (sym is) ∙ at_itself (moves_tab, key) in
+      absurd cc
+]
 
 registrations_stay : (entries : List Entry) (e : Entry) (d : Id) → registered_by d e ≡ None → registration_of (entries ++ e ∷ []) d ≡ registration_of entries d
 registrations_stay [] e d none = ap (λ (o : Option (Id × List ℕ)). option_or o None) none

@@ -2,13 +2,13 @@
 use Rattle.std.specs.Prelude.{ℕ, ◌≡◌, ◌+◌, ◌<◌, ◌^◌, List, [], ◌∷◌, ◌++◌, length, None, IsTrue, Ok}
 use Rattle.dh_base.specs.declared.id.Id.{Id}
 use Rattle.dh_base.specs.Names.{is_name}
-use Rattle.act_text.specs.declared.act.Act.TheVariants.{Pay, Escrow}
+use Rattle.act_text.specs.declared.act.Act.TheVariants.{Pay, Escrow, Transfer}
 use Rattle.act_text.specs.declared.office.Office.TheVariants.{Ledger}
 use Rattle.act_text.specs.ActReading.{act_of}
-use Rattle.escrow_book.specs.declared.change.Change.TheVariants.{Paid, Escrowed}
+use Rattle.escrow_book.specs.declared.change.Change.TheVariants.{Paid, Escrowed, Transferred}
 use Rattle.escrow_book.specs.Opening.{Row}
-use Rattle.escrow_book.specs.History.{with_change, free_of}
-use Rattle.escrow_book.specs.Reached.{IsReached}
+use Rattle.escrow_book.specs.History.{with_change, free_of, moves_of}
+use Rattle.escrow_book.specs.Reached.{IsReached, IsAccepted}
 use Rattle.escrow_book.specs.Refused.{pay_refusal, escrow_refusal}
 use Rattle.keeper_core.specs.declared.change.Change.{Change}
 use Rattle.keeper_core.specs.Tables.{Tables}
@@ -16,7 +16,7 @@ use Rattle.keeper_core.specs.Batches.{after_batch}
 use Rattle.ledger_rows.specs.declared.entry.Entry.{Entry}
 use Rattle.ledger_rows.specs.declared.entry.Entry.TheVariants.{Act}
 use Rattle.ledger_rows.specs.declared.hold.Hold.{Hold}
-use Rattle.ledger_rows.specs.RowChanges.{free_change, hold_change, used_change, entry_change}
+use Rattle.ledger_rows.specs.RowChanges.{free_change, hold_change, moves_change, used_change, entry_change}
 use Rattle.ledger_rows.specs.Entries.{digest_of, book_of, used_of}
 use Rattle.ledger_rows.specs.LedgerTables.{hold_of, StandsFor}
 
@@ -76,3 +76,28 @@ EscrowStands = (tables : Tables) (opening : List Row) (entries : List Entry)
     (escrow_changes deal party asset (free_of later party asset) (hold_of later deal party asset)
     (act_changes (length entries + 1) party q message)) tables)
     opening (entries ++ Act party q message ∷ [])
+
+-- how many transfers the sender has made, what sender and receiver own in the deal behind a
+-- transfer, and the act
+abbrev pub transfer_changes : Id → Id → Id → List ℕ → ℕ → Hold → Hold → List Change → List Change
+transfer_changes deal from to asset moves sender receiver act =
+    moves_change deal from moves ∷ hold_change deal from asset sender
+    ∷ hold_change deal to asset receiver ∷ act
+
+-- The same of an accepted transfer.
+abbrev pub TransferStands : Type 0
+TransferStands = (tables : Tables) (opening : List Row) (entries : List Entry)
+    (from : Id) (q : ℕ) (message : List ℕ)
+    (deal : Id) (ledger : List ℕ) (turn : ℕ) (to : Id) (asset : List ℕ) (amount : ℕ) →
+    let book = book_of opening entries in
+    let later = with_change book (Transferred deal from to asset amount) in
+    StandsFor tables opening entries → IsReached book → IsNew entries from q →
+    act_of Ledger message ≡ Ok (Transfer deal ledger turn to asset amount) →
+    length deal.0 ≡ 32 → length to.0 ≡ 32 → IsTrue (is_name asset) → length entries < 2 ^ 63 →
+    IsAccepted book (Transferred deal from to asset amount) →
+    StandsFor
+    (after_batch
+    (transfer_changes deal from to asset (moves_of later deal from)
+    (hold_of later deal from asset) (hold_of later deal to asset)
+    (act_changes (length entries + 1) from q message)) tables)
+    opening (entries ++ Act from q message ∷ [])
