@@ -22,8 +22,8 @@ pub fn keys_read()
     ensures used { UsedKeysRead }
 {}
 
-/// Tables that stand for a history stand for it with an accepted payment behind it, once the changes
-/// of the payment are made.
+/// Tables that stand for a history stand for it with an accepted payment behind it, once the
+/// changes of the payment are made.
 pub fn payment_stands()
     ensures { PaymentStands }
 {}

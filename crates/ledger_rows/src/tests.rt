@@ -1,4 +1,5 @@
-//! The digests, of the key and the value of a row, were worked out outside, by a program of its own.
+//! The digests, of the key and the value of a row, were worked out outside, by a program of its
+//! own.
 
 ghost use Rattle.std.specs.Prelude.{◌≡◌, IfOk};
 ghost use Rattle.act_text.specs.ActTexts.{TextFits};

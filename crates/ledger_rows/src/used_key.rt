@@ -5,8 +5,8 @@ use crate::row_value::RowValue;
 use dh_base::{Id, NoMemory};
 use std::alloc::Global;
 
-/// What a key of an account has signed that was accepted: the number of the entry, and the digest of
-/// the message.
+/// What a key of an account has signed that was accepted: the number of the entry, and the digest
+/// of the message.
 #[derive(Clone, Copy, Debug, PartialEq, Eq)]
 pub struct UsedKey {
     pub at: u64,
