@@ -1,6 +1,6 @@
-//! Validator sets: who vouches for the log. A set has an epoch and 3f + 1 seats, of which up to f may
-//! deviate; its id is the digest of its text, and the id of the set of epoch 0 names a house. What
-//! 2f + 1 different seats say, in signed envelopes, is vouched for.
+//! Validator sets: who vouches for the log. A set has an epoch and 3f + 1 seats, of which up to f
+//! may deviate; its id is the digest of its text, and the id of the set of epoch 0 names a house.
+//! What 2f + 1 different seats say, in signed envelopes, is vouched for.
 //!
 //! [`read_set`] and [`write_set`] lead between a set and its one text, and [`set_id`] gives its id.
 //! [`quorum`] counts who has signed a text.

@@ -36,11 +36,11 @@ count_in (pos n) = n
 count_in (negsuc n) = 0
 
 abbrev pub from_row : Row → CellRow
-from_row row = record {
-  id = id_in (column row 0);
-  tab = count_in (id_in (column row 1));
-  key = bytes (column row 2);
-  val = bytes (column row 3);
+from_row cells = record {
+  id = id_in (column cells 0);
+  tab = count_in (id_in (column cells 1));
+  key = bytes (column cells 2);
+  val = bytes (column cells 3);
 }
 
 abbrev pub entry_in : CellRow → Cell × List ℕ

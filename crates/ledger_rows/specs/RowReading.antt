@@ -53,7 +53,8 @@ pub record LacksFormAt {V : Type 0} (value_of : List ℕ → Option V) (tab : �
 abbrev pub ReadsRow : {V : Type 0} → (List ℕ → Option V) → ℕ → List ℕ
     → Result (Option V) StoreFault → Known → Known → Type 0
 ReadsRow value_of tab key =
-    Reads 1 (row_at value_of tab key) (λ tables. form_refusal tab key (row_at value_of tab key tables))
+    Reads 1 (row_at value_of tab key)
+    (λ tables. form_refusal tab key (row_at value_of tab key tables))
     (LacksFormAt value_of tab key)
 
 -- ---- one reading behind another

@@ -20,8 +20,8 @@ pub record AreWays (from to : List ℕ) : Type 0 where
 abbrev pub place_of : List ℕ → List ℕ → ℕ → ℕ
 place_of from to k = 67 * (slice_index to k - slice_index from k) + k
 
--- Of the chains whose places are below `seen` each has been walked or waits in the group, in a place
--- from `first` on and below `count`. The others' values are as before.
+-- Of the chains whose places are below `seen` each has been walked or waits in the group, in a
+-- place from `first` on and below `count`. The others' values are as before.
 pub record IsUnderWay (ident : List ℕ) (q : ℕ) (from to : List ℕ) (before : List (List ℕ))
     (seen : ℕ) (group : List ℕ) (first count : ℕ) (after : List (List ℕ)) : Type 0 where
   pub order : first ≤ count

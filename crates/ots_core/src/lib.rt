@@ -1,8 +1,8 @@
 //! One-time signatures: LM-OTS of RFC 8554 with the parameters LMOTS_SHA256_N32_W4, by which each
 //! key signs one message. Nothing here takes memory.
 //!
-//! - `key_generation`, `signing`, `verifying`: a public key, the signature of a message, and whether a
-//!   signature is valid.
+//! - `key_generation`, `signing`, `verifying`: a public key, the signature of a message, and whether
+//!   a signature is valid.
 //! - `ots_sig`, `sig_fault`: a signature and its bytes, and why bytes are none.
 //! - `walks`, `side_by_side`: walks on all chains of a key, eight chains at once.
 //! - `chain`, `coefficients`, `hashing`, `key`, `part`: what these stand on.

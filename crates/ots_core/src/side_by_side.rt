@@ -8,8 +8,8 @@ use crate::key::Key;
 use hash_lanes::{from_bytes, to_bytes};
 use std::simd::u32x8;
 
-/// Where eight chains begin, and where they end. A place on a chain is the chain's number times 256,
-/// and the number of the step.
+/// Where eight chains begin, and where they end. A place on a chain is the chain's number times
+/// 256, and the number of the step.
 #[derive(Clone, Copy, Drop)]
 pub(crate) struct Eight {
     pub(crate) from: [u32; 8],

@@ -1,5 +1,5 @@
-//! Walks on all chains of a key. Chains of which about as many steps are to be taken are walked side
-//! by side.
+//! Walks on all chains of a key. Chains of which about as many steps are to be taken are walked
+//! side by side.
 
 ghost use Rattle.std.specs.Prelude.{◌≡◌, ℕ, List, [], ◌<◌, ◌≤◌, ◌+◌, ◌*◌, slice_index, slice_index_or};
 ghost use Rattle.ots_core.specs.Chains as specs;
@@ -137,7 +137,8 @@ pub(crate) fn walk(key: &Key, ways: &Ways, start: &[[u8; 32]; 67]) -> [[u8; 32];
     requires key { IsKey key.now }
     requires ways { AreWays ways.now.from ways.now.to }
     ensures { (i : ℕ) → i < 67 → slice_index_or result i []
-        ≡ specs.chain key.now.ident key.now.q i (slice_index ways.now.from i) (slice_index ways.now.to i)
+        ≡ specs.chain key.now.ident key.now.q i
+        (slice_index ways.now.from i) (slice_index ways.now.to i)
         (slice_index_or start.now i []) }
 {
     // The first group has the room that 67 chains leave in nine groups, since it takes the fewest
