@@ -1,5 +1,2 @@
-pub mod LedgerFaults
-pub mod LedgerStep
-pub mod LedgerState
-pub mod Once
-pub mod Paying
+pub mod AskFaults
+pub mod OpenFaults

@@ -40,7 +40,7 @@ impl From<NoMemory> for AskFault {
 }
 
 impl Refusal for AskFault {
-    ghost use Rattle.ledger_core.specs.LedgerFaults.{ask_fault_told};
+    ghost use Rattle.ledger_core.specs.AskFaults.{ask_fault_told};
 
     ghost told = { ask_fault_told };
 
@@ -58,7 +58,7 @@ impl Refusal for AskFault {
 impl fmt::Display for AskFault {
     ghost use Rattle.std.specs.Prelude.{Some};
     ghost use Rattle.dh_base.specs.Refusals.{refusal_text};
-    ghost use Rattle.ledger_core.specs.LedgerFaults.{ask_fault_told};
+    ghost use Rattle.ledger_core.specs.AskFaults.{ask_fault_told};
 
     ghost output = { λ fault. Some (refusal_text (ask_fault_told fault)) };
 

@@ -40,7 +40,7 @@ impl From<NoMemory> for OpenFault {
 }
 
 impl Refusal for OpenFault {
-    ghost use Rattle.ledger_core.specs.LedgerFaults.{open_fault_told};
+    ghost use Rattle.ledger_core.specs.OpenFaults.{open_fault_told};
 
     ghost told = { open_fault_told };
 
@@ -60,7 +60,7 @@ impl Refusal for OpenFault {
 impl fmt::Display for OpenFault {
     ghost use Rattle.std.specs.Prelude.{Some};
     ghost use Rattle.dh_base.specs.Refusals.{refusal_text};
-    ghost use Rattle.ledger_core.specs.LedgerFaults.{open_fault_told};
+    ghost use Rattle.ledger_core.specs.OpenFaults.{open_fault_told};
 
     ghost output = { λ fault. Some (refusal_text (open_fault_told fault)) };
 

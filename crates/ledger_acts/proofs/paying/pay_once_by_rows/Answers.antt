@@ -3,11 +3,11 @@ use Rattle.ledger_rows.specs.declared.used_key.UsedKey.{UsedKey}
 use Rattle.ledger_rows.specs.RowReading.{Reads, LacksForm, used_said, used_refusal}
 use Rattle.ledger_rows.specs.ActChanges.{act_changes}
 use Rattle.ledger_rows.specs.Entries.{digest_of}
-use Rattle.ledger_core.specs.declared.ledger_fault.LedgerFault.{LedgerFault}
-use Rattle.ledger_core.specs.declared.ledger_fault.LedgerFault.TheVariants.{Store}
-use Rattle.ledger_core.specs.Paying.{payment_refusal, payment_batches, PaysOnceByRows}
-use Rattle.ledger_core.proofs.Onces.{key_unread, key_kept, new_refused, new_done}
-use Rattle.ledger_core.proofs.paying.pay_once_by_rows.Goals as goal
+use Rattle.ledger_acts.specs.declared.ledger_fault.LedgerFault.{LedgerFault}
+use Rattle.ledger_acts.specs.declared.ledger_fault.LedgerFault.TheVariants.{Store}
+use Rattle.ledger_acts.specs.Paying.{payment_refusal, payment_batches, PaysOnceByRows}
+use Rattle.ledger_acts.proofs.Onces.{key_unread, key_kept, new_refused, new_done}
+use Rattle.ledger_acts.proofs.paying.pay_once_by_rows.Goals as goal
 
 pub returns-in_err-used : goal.returns-in_err-used
 returns-in_err-used g c =

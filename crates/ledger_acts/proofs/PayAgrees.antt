@@ -37,11 +37,11 @@ use Rattle.ledger_rows.specs.Entries.{book_of}
 use Rattle.ledger_rows.specs.LedgerTables.{free_value, StandsFor}
 use Rattle.ledger_rows.proofs.ValuesSpelled.{spelled_free}
 use Rattle.ledger_rows.proofs.RowsKept.{free_row_is}
-use Rattle.ledger_core.specs.declared.ledger_fault.LedgerFault.{LedgerFault}
-use Rattle.ledger_core.specs.declared.ledger_fault.LedgerFault.TheVariants.{Store}
-use Rattle.ledger_core.specs.declared.payment.Payment.{Payment}
-use Rattle.ledger_core.specs.LedgerStep.{Opened, first_of, by_book, acts_of, full}
-use Rattle.ledger_core.specs.Paying.{paying_rows, paying_part, paid_part, part_refusal, sender_has, receiver_has, rows_refusal, payment_refusal, payment_step_refusal}
+use Rattle.ledger_acts.specs.declared.ledger_fault.LedgerFault.{LedgerFault}
+use Rattle.ledger_acts.specs.declared.ledger_fault.LedgerFault.TheVariants.{Store}
+use Rattle.ledger_acts.specs.declared.payment.Payment.{Payment}
+use Rattle.ledger_acts.specs.LedgerStep.{Opened, first_of, by_book, acts_of, full}
+use Rattle.ledger_acts.specs.Paying.{paying_rows, paying_part, paid_part, part_refusal, sender_has, receiver_has, rows_refusal, payment_refusal, payment_step_refusal}
 
 -- ---- what a row of a history says
 

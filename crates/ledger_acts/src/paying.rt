@@ -8,8 +8,8 @@ ghost use Rattle.ledger_rows.specs.RowReading.{Reads, LacksForm, both_said, eith
 ghost use Rattle.dh_base.specs.Ids.{same_id};
 ghost use Rattle.ledger_rows.specs.ActChanges.{act_changes, payment_changes};
 ghost use Rattle.ledger_rows.specs.Entries.{digest_of};
-ghost use Rattle.ledger_core.specs.LedgerStep.{kept_reply};
-ghost use Rattle.ledger_core.specs.Paying.{IsRefusedBy, paying_rows, paying_part, paid_part, row_refusal, part_refusal, amounts_refusal, changes_with, changes_refusal, PaysByRows, PaysByStep, PaysOnceByRows, PaysOnceByStep};
+ghost use Rattle.ledger_acts.specs.LedgerStep.{kept_reply};
+ghost use Rattle.ledger_acts.specs.Paying.{IsRefusedBy, paying_rows, paying_part, paid_part, row_refusal, part_refusal, amounts_refusal, changes_with, changes_refusal, PaysByRows, PaysByStep, PaysOnceByRows, PaysOnceByStep};
 
 use crate::ledger_fault::LedgerFault;
 use crate::payment::Payment;

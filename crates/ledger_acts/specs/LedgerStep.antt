@@ -26,9 +26,9 @@ use Rattle.ledger_rows.specs.declared.entry.Entry.{Entry}
 use Rattle.ledger_rows.specs.declared.entry.Entry.TheVariants.{Act as Accepted, Settlement}
 use Rattle.ledger_rows.specs.declared.used_key.UsedKey.{UsedKey}
 use Rattle.ledger_rows.specs.Entries.{digest_of, registration_of, used_of, book_of}
-use Rattle.ledger_core.specs.declared.ledger_fault.LedgerFault.{LedgerFault}
-use Rattle.ledger_core.specs.declared.ledger_fault.LedgerFault.TheVariants.{BadEnvelope, BadAct, KeyReused, WrongLedger, BadDeal, WrongHouse, NotAParty, DealsFull, LedgerFull}
-use Rattle.ledger_core.specs.LedgerFaults.{ledger_fault_of}
+use Rattle.ledger_acts.specs.declared.ledger_fault.LedgerFault.{LedgerFault}
+use Rattle.ledger_acts.specs.declared.ledger_fault.LedgerFault.TheVariants.{BadEnvelope, BadAct, KeyReused, WrongLedger, BadDeal, WrongHouse, NotAParty, DealsFull, LedgerFull}
+use Rattle.ledger_acts.specs.LedgerFaults.{ledger_fault_of}
 
 -- Which ledger it is: its name, the id of its house, its opening rows, and the identity that its
 -- opening has.

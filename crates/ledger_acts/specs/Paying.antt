@@ -26,13 +26,13 @@ use Rattle.ledger_rows.specs.declared.entry.Entry.{Entry}
 use Rattle.ledger_rows.specs.declared.entry.Entry.TheVariants.{Act}
 use Rattle.ledger_rows.specs.Entries.{digest_of, book_of, used_of}
 use Rattle.ledger_rows.specs.ActChanges.{IsNew, act_changes, payment_changes}
-use Rattle.ledger_core.specs.declared.ledger_fault.LedgerFault.{LedgerFault}
-use Rattle.ledger_core.specs.declared.ledger_fault.LedgerFault.TheVariants.{Store}
-use Rattle.ledger_core.specs.declared.payment.Payment.{Payment}
-use Rattle.ledger_core.specs.LedgerFaults.{of_ledger_fault}
-use Rattle.ledger_core.specs.LedgerStep.{Opened, first_of, by_book, acts_of, full}
-use Rattle.ledger_core.specs.LedgerState.{IsState}
-use Rattle.ledger_core.specs.Once.{ByRows, by_key, number_by, entries_by, once_refusal, once_batches, IsOnceAnswer}
+use Rattle.ledger_acts.specs.declared.ledger_fault.LedgerFault.{LedgerFault}
+use Rattle.ledger_acts.specs.declared.ledger_fault.LedgerFault.TheVariants.{Store}
+use Rattle.ledger_acts.specs.declared.payment.Payment.{Payment}
+use Rattle.ledger_acts.specs.LedgerFaults.{of_ledger_fault}
+use Rattle.ledger_acts.specs.LedgerStep.{Opened, first_of, by_book, acts_of, full}
+use Rattle.ledger_acts.specs.LedgerState.{IsState}
+use Rattle.ledger_acts.specs.Once.{ByRows, by_key, number_by, entries_by, once_refusal, once_batches, IsOnceAnswer}
 
 -- The fault is the refusal. Want of memory may come in place of any answer.
 abbrev pub IsRefusedBy : Option LedgerFault → LedgerFault → Type 0

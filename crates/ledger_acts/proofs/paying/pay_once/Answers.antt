@@ -1,5 +1,5 @@
-use Rattle.ledger_core.proofs.OnceSteps.{pays_once}
-use Rattle.ledger_core.proofs.paying.pay_once.Goals as goal
+use Rattle.ledger_acts.proofs.OnceSteps.{pays_once}
+use Rattle.ledger_acts.proofs.paying.pay_once.Goals as goal
 
 pub returns-clause-step : goal.returns-clause-step
 returns-clause-step g c =

@@ -1,11 +1,11 @@
 use Rattle.std.proofs.Common.{rules, ◌≡◌, ◌∙◌, Result, Err, sym, subst}
 use Rattle.keeper_core.specs.StoreFaults.{store_fault_of}
 use Rattle.ledger_rows.specs.ActChanges.{act_changes}
-use Rattle.ledger_core.specs.declared.ledger_fault.LedgerFault.{LedgerFault}
-use Rattle.ledger_core.specs.declared.ledger_fault.LedgerFault.TheVariants.{Store}
-use Rattle.ledger_core.specs.Paying.{PaysByRows}
-use Rattle.ledger_core.proofs.PayCalls.{zero_or_self_paid, unread_paid, refused_paid, is_paid, not_kept}
-use Rattle.ledger_core.proofs.paying.pay_by_rows.Goals as goal
+use Rattle.ledger_acts.specs.declared.ledger_fault.LedgerFault.{LedgerFault}
+use Rattle.ledger_acts.specs.declared.ledger_fault.LedgerFault.TheVariants.{Store}
+use Rattle.ledger_acts.specs.Paying.{PaysByRows}
+use Rattle.ledger_acts.proofs.PayCalls.{zero_or_self_paid, unread_paid, refused_paid, is_paid, not_kept}
+use Rattle.ledger_acts.proofs.paying.pay_by_rows.Goals as goal
 
 pub returns-then-is_zero_or_self : goal.returns-then-is_zero_or_self
 returns-then-is_zero_or_self g c =

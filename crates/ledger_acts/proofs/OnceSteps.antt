@@ -21,17 +21,17 @@ use Rattle.ledger_rows.specs.Entries.{digest_of, signed_by, used_from, used_of}
 use Rattle.ledger_rows.specs.ActChanges.{act_changes}
 use Rattle.ledger_rows.proofs.KeysSpelled.{used_parts}
 use Rattle.ledger_rows.proofs.ValuesSpelled.{spelled_used}
-use Rattle.ledger_core.specs.declared.ledger_fault.LedgerFault.{LedgerFault}
-use Rattle.ledger_core.specs.declared.ledger_fault.LedgerFault.TheVariants.{Store}
-use Rattle.ledger_core.specs.declared.payment.Payment.{Payment}
-use Rattle.ledger_core.specs.LedgerFaults.{of_ledger_fault}
-use Rattle.ledger_core.specs.LedgerStep.{Opened, acts_of}
-use Rattle.ledger_core.specs.LedgerState.{IsState}
-use Rattle.ledger_core.specs.Once.{by_key, number_by, batches_by, entries_by, key_said, key_at, once_refusal, once_batches, IsOnceAnswer}
-use Rattle.ledger_core.specs.Paying.{payment_refusal, payment_batches, IsPaymentOf, AsksFor, payment_step_refusal, PaysOnceByRows}
-use Rattle.ledger_core.proofs.PayCalls.{never_done}
-use Rattle.ledger_core.proofs.PayAgrees.{refusal_is}
-use Rattle.ledger_core.proofs.PaySteps.{onward}
+use Rattle.ledger_acts.specs.declared.ledger_fault.LedgerFault.{LedgerFault}
+use Rattle.ledger_acts.specs.declared.ledger_fault.LedgerFault.TheVariants.{Store}
+use Rattle.ledger_acts.specs.declared.payment.Payment.{Payment}
+use Rattle.ledger_acts.specs.LedgerFaults.{of_ledger_fault}
+use Rattle.ledger_acts.specs.LedgerStep.{Opened, acts_of}
+use Rattle.ledger_acts.specs.LedgerState.{IsState}
+use Rattle.ledger_acts.specs.Once.{by_key, number_by, batches_by, entries_by, key_said, key_at, once_refusal, once_batches, IsOnceAnswer}
+use Rattle.ledger_acts.specs.Paying.{payment_refusal, payment_batches, IsPaymentOf, AsksFor, payment_step_refusal, PaysOnceByRows}
+use Rattle.ledger_acts.proofs.PayCalls.{never_done}
+use Rattle.ledger_acts.proofs.PayAgrees.{refusal_is}
+use Rattle.ledger_acts.proofs.PaySteps.{onward}
 
 -- ---- what the row of a key says
 

@@ -27,14 +27,14 @@ use Rattle.ledger_rows.specs.ActChanges.{act_changes, payment_changes}
 use Rattle.ledger_rows.proofs.Cells.{change_at, free_at}
 use Rattle.ledger_rows.proofs.Histories.{one_act_more}
 use Rattle.ledger_rows.proofs.PaymentsStand.{payment_stands}
-use Rattle.ledger_core.specs.declared.ledger_fault.LedgerFault.{LedgerFault}
-use Rattle.ledger_core.specs.declared.payment.Payment.{Payment}
-use Rattle.ledger_core.specs.LedgerFaults.{of_ledger_fault, ledger_fault_of}
-use Rattle.ledger_core.specs.LedgerStep.{Opened, first_of, by_book, most_acts, is_act, acts_of, full}
-use Rattle.ledger_core.specs.LedgerState.{form_tab, form_key, IsState}
-use Rattle.ledger_core.specs.Paying.{sender_has, receiver_has, payment_refusal, payment_batches, changes_with, IsPaymentOf, payment_step_refusal, PaysByRows}
-use Rattle.ledger_core.proofs.PayCalls.{never_done}
-use Rattle.ledger_core.proofs.PayAgrees.{refusal_is, behind_is}
+use Rattle.ledger_acts.specs.declared.ledger_fault.LedgerFault.{LedgerFault}
+use Rattle.ledger_acts.specs.declared.payment.Payment.{Payment}
+use Rattle.ledger_acts.specs.LedgerFaults.{of_ledger_fault, ledger_fault_of}
+use Rattle.ledger_acts.specs.LedgerStep.{Opened, first_of, by_book, most_acts, is_act, acts_of, full}
+use Rattle.ledger_acts.specs.LedgerState.{form_tab, form_key, IsState}
+use Rattle.ledger_acts.specs.Paying.{sender_has, receiver_has, payment_refusal, payment_batches, changes_with, IsPaymentOf, payment_step_refusal, PaysByRows}
+use Rattle.ledger_acts.proofs.PayCalls.{never_done}
+use Rattle.ledger_acts.proofs.PayAgrees.{refusal_is, behind_is}
 
 none_mapped : {A B : Type 0} (f : A → B) (o : Option A) → option_map f o ≡ None → o ≡ None
 none_mapped f None e = refl

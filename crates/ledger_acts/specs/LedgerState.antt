@@ -6,7 +6,7 @@ use Rattle.keeper_core.specs.Tables.{Tables}
 use Rattle.ledger_rows.specs.declared.entry.Entry.{Entry}
 use Rattle.ledger_rows.specs.Entries.{book_of}
 use Rattle.ledger_rows.specs.LedgerTables.{StandsFor}
-use Rattle.ledger_core.specs.LedgerStep.{Opened, most_acts, acts_of}
+use Rattle.ledger_acts.specs.LedgerStep.{Opened, most_acts, acts_of}
 
 -- the table of what a keeper is
 abbrev pub form_tab : ℕ

@@ -16,12 +16,12 @@ use Rattle.keeper_core.specs.Stepping.{LeavesBy, IsRefusal, commits_unless}
 use Rattle.keeper_core.proofs.Leaving.{not_asked, read_and, handed_on}
 use Rattle.keeper_core.proofs.Stepping.{was_told, reads_leave, call_leaves}
 use Rattle.ledger_rows.specs.RowReading.{Reads, LacksForm, pair_of, both_said, either_refusal, free_said, free_refusal}
-use Rattle.ledger_core.specs.declared.ledger_fault.LedgerFault.{LedgerFault}
-use Rattle.ledger_core.specs.declared.ledger_fault.LedgerFault.TheVariants.{BadEnvelope, BadAct, KeyReused, WrongLedger, BadDeal, WrongHouse, UnknownDeal, NotAParty, DealsFull, DealSettled, WrongTurn, ZeroOrSelf, Short, LedgerFull, Store}
-use Rattle.ledger_core.specs.declared.payment.Payment.{Payment}
-use Rattle.ledger_core.specs.LedgerFaults.{of_ledger_fault}
-use Rattle.ledger_core.specs.LedgerStep.{first_of, by_book, full}
-use Rattle.ledger_core.specs.Paying.{IsRefusedBy, rows_refusal, sender_has, receiver_has, amounts_refusal, payment_refusal, changes_with, payment_batches, changes_refusal, PaysByRows}
+use Rattle.ledger_acts.specs.declared.ledger_fault.LedgerFault.{LedgerFault}
+use Rattle.ledger_acts.specs.declared.ledger_fault.LedgerFault.TheVariants.{BadEnvelope, BadAct, KeyReused, WrongLedger, BadDeal, WrongHouse, UnknownDeal, NotAParty, DealsFull, DealSettled, WrongTurn, ZeroOrSelf, Short, LedgerFull, Store}
+use Rattle.ledger_acts.specs.declared.payment.Payment.{Payment}
+use Rattle.ledger_acts.specs.LedgerFaults.{of_ledger_fault}
+use Rattle.ledger_acts.specs.LedgerStep.{first_of, by_book, full}
+use Rattle.ledger_acts.specs.Paying.{IsRefusedBy, rows_refusal, sender_has, receiver_has, amounts_refusal, payment_refusal, changes_with, payment_batches, changes_refusal, PaysByRows}
 
 -- ---- refusals
 

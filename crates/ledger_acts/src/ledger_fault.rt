@@ -46,7 +46,7 @@ pub enum LedgerFault {
 
 impl From<StoreFault> for LedgerFault {
     ghost use Rattle.std.specs.Prelude.{◌≡◌};
-    ghost use Rattle.ledger_core.specs.declared.ledger_fault.LedgerFault.TheVariants.{Store};
+    ghost use Rattle.ledger_acts.specs.declared.ledger_fault.LedgerFault.TheVariants.{Store};
 
     ghost from_gives = { λ fault given. given ≡ Store fault };
 
@@ -58,7 +58,7 @@ impl From<StoreFault> for LedgerFault {
 impl From<KeepFault> for LedgerFault {
     ghost use Rattle.std.specs.Prelude.{◌≡◌};
     ghost use Rattle.keeper_core.specs.StoreFaults.{store_fault_of};
-    ghost use Rattle.ledger_core.specs.declared.ledger_fault.LedgerFault.TheVariants.{Store};
+    ghost use Rattle.ledger_acts.specs.declared.ledger_fault.LedgerFault.TheVariants.{Store};
 
     ghost from_gives = { λ fault given. given ≡ Store (store_fault_of fault) };
 
@@ -70,7 +70,7 @@ impl From<KeepFault> for LedgerFault {
 impl From<NoMemory> for LedgerFault {
     ghost use Rattle.std.specs.Prelude.{◌≡◌};
     ghost use Rattle.keeper_core.specs.declared.store_fault.StoreFault.TheVariants.{NoMemory};
-    ghost use Rattle.ledger_core.specs.declared.ledger_fault.LedgerFault.TheVariants.{Store};
+    ghost use Rattle.ledger_acts.specs.declared.ledger_fault.LedgerFault.TheVariants.{Store};
 
     ghost from_gives = { λ _ fault. fault ≡ Store NoMemory };
 
@@ -81,7 +81,7 @@ impl From<NoMemory> for LedgerFault {
 
 impl From<BookFault> for LedgerFault {
     ghost use Rattle.std.specs.Prelude.{◌≡◌};
-    ghost use Rattle.ledger_core.specs.LedgerFaults.{ledger_fault_of};
+    ghost use Rattle.ledger_acts.specs.LedgerFaults.{ledger_fault_of};
 
     ghost from_gives = { λ fault given. given ≡ ledger_fault_of fault };
 
@@ -99,7 +99,7 @@ impl From<BookFault> for LedgerFault {
 }
 
 impl Refusal for LedgerFault {
-    ghost use Rattle.ledger_core.specs.LedgerFaults.{ledger_fault_told};
+    ghost use Rattle.ledger_acts.specs.LedgerFaults.{ledger_fault_told};
 
     ghost told = { ledger_fault_told };
 
@@ -150,7 +150,7 @@ impl Refusal for LedgerFault {
 impl fmt::Display for LedgerFault {
     ghost use Rattle.std.specs.Prelude.{Some};
     ghost use Rattle.dh_base.specs.Refusals.{refusal_text};
-    ghost use Rattle.ledger_core.specs.LedgerFaults.{ledger_fault_told};
+    ghost use Rattle.ledger_acts.specs.LedgerFaults.{ledger_fault_told};
 
     ghost output = { λ fault. Some (refusal_text (ledger_fault_told fault)) };
 

@@ -11,9 +11,9 @@ use Rattle.keeper_core.specs.Stepping.{WhereTold, LeavesBy, IsReply, commits_unl
 use Rattle.ledger_rows.specs.declared.entry.Entry.{Entry}
 use Rattle.ledger_rows.specs.declared.used_key.UsedKey.{UsedKey}
 use Rattle.ledger_rows.specs.RowReading.{used_said, used_refusal}
-use Rattle.ledger_core.specs.declared.ledger_fault.LedgerFault.{LedgerFault}
-use Rattle.ledger_core.specs.declared.ledger_fault.LedgerFault.TheVariants.{KeyReused, Store}
-use Rattle.ledger_core.specs.LedgerFaults.{of_ledger_fault}
+use Rattle.ledger_acts.specs.declared.ledger_fault.LedgerFault.{LedgerFault}
+use Rattle.ledger_acts.specs.declared.ledger_fault.LedgerFault.TheVariants.{KeyReused, Store}
+use Rattle.ledger_acts.specs.LedgerFaults.{of_ledger_fault}
 
 -- A call is answered by the rows, and commits the batches where it is accepted. It looks so many
 -- rows up at most.

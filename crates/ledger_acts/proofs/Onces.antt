@@ -14,12 +14,12 @@ use Rattle.keeper_core.proofs.Stepping.{was_told, reads_leave, call_leaves}
 use Rattle.ledger_rows.specs.declared.used_key.UsedKey.{UsedKey}
 use Rattle.ledger_rows.specs.RowReading.{Reads, LacksForm, used_said, used_refusal}
 use Rattle.ledger_rows.proofs.RowReads.{look_keeps}
-use Rattle.ledger_core.specs.declared.ledger_fault.LedgerFault.{LedgerFault}
-use Rattle.ledger_core.specs.declared.ledger_fault.LedgerFault.TheVariants.{KeyReused, Store}
-use Rattle.ledger_core.specs.LedgerFaults.{of_ledger_fault}
-use Rattle.ledger_core.specs.LedgerStep.{kept_reply}
-use Rattle.ledger_core.specs.Once.{ByRows, reused, by_key, number_by, batches_by, key_said, key_at, once_refusal, once_batches, IsOnceAnswer}
-use Rattle.ledger_core.proofs.PayCalls.{store_not_done, stored, told_on}
+use Rattle.ledger_acts.specs.declared.ledger_fault.LedgerFault.{LedgerFault}
+use Rattle.ledger_acts.specs.declared.ledger_fault.LedgerFault.TheVariants.{KeyReused, Store}
+use Rattle.ledger_acts.specs.LedgerFaults.{of_ledger_fault}
+use Rattle.ledger_acts.specs.LedgerStep.{kept_reply}
+use Rattle.ledger_acts.specs.Once.{ByRows, reused, by_key, number_by, batches_by, key_said, key_at, once_refusal, once_batches, IsOnceAnswer}
+use Rattle.ledger_acts.proofs.PayCalls.{store_not_done, stored, told_on}
 
 told_both : (P Q R : Tables → Type 0) (before mid after : Option Tables) → KeepsTold before mid → IfSome after (λ _. IsSome mid) → ((tables : Tables) → P tables → Q tables → R tables) →
     IfSome mid (λ _. IfSome before P) → IfSome after (λ _. IfSome mid Q) → IfSome after (λ _. IfSome before R)

@@ -10,12 +10,8 @@ use Rattle.escrow_book.specs.declared.fault.BookFault.TheVariants as book
 use Rattle.keeper_core.specs.declared.store_fault.StoreFault.TheVariants.{NoMemory}
 use Rattle.keeper_core.specs.StoreFaults.{store_fault_told}
 use Rattle.keeper_core.specs.Leaving.{Ended, refused, of_store_fault}
-use Rattle.ledger_core.specs.declared.ledger_fault.LedgerFault.{LedgerFault}
-use Rattle.ledger_core.specs.declared.ledger_fault.LedgerFault.TheVariants.{BadEnvelope, BadAct, KeyReused, WrongLedger, BadDeal, WrongHouse, UnknownDeal, NotAParty, DealsFull, DealSettled, WrongTurn, ZeroOrSelf, Short, LedgerFull, Store}
-use Rattle.ledger_core.specs.declared.ask_fault.AskFault.{AskFault}
-use Rattle.ledger_core.specs.declared.ask_fault.AskFault.TheVariants as ask
-use Rattle.ledger_core.specs.declared.open_fault.OpenFault.{OpenFault}
-use Rattle.ledger_core.specs.declared.open_fault.OpenFault.TheVariants as opening
+use Rattle.ledger_acts.specs.declared.ledger_fault.LedgerFault.{LedgerFault}
+use Rattle.ledger_acts.specs.declared.ledger_fault.LedgerFault.TheVariants.{BadEnvelope, BadAct, KeyReused, WrongLedger, BadDeal, WrongHouse, UnknownDeal, NotAParty, DealsFull, DealSettled, WrongTurn, ZeroOrSelf, Short, LedgerFull, Store}
 
 abbrev pub ledger_fault_told : LedgerFault → List Told
 ledger_fault_told (BadEnvelope fault) = told_of 1 (codes "BadEnvelope") [] ∷ env_fault_told fault
@@ -43,32 +39,11 @@ ledger_fault_told (LedgerFull acts) =
     told_of 14 (codes "LedgerFull") (field_of (codes "acts") (Number acts) ∷ []) ∷ []
 ledger_fault_told (Store fault) = told_of 15 (codes "Store") [] ∷ store_fault_told fault
 
-abbrev pub ask_fault_told : AskFault → List Told
-ask_fault_told ask.UnknownDeal = told_of 1 (codes "UnknownDeal") [] ∷ []
-ask_fault_told (ask.NotAParty account) =
-    told_of 2 (codes "NotAParty") (field_of (codes "account") (Hash account) ∷ []) ∷ []
-ask_fault_told (ask.Store fault) = told_of 3 (codes "Store") [] ∷ store_fault_told fault
-
-abbrev pub open_fault_told : OpenFault → List Told
-open_fault_told (opening.BadOpening row) =
-    told_of 1 (codes "BadOpening") (field_of (codes "row") (Number row) ∷ []) ∷ []
-open_fault_told (opening.OtherOpening kept) =
-    told_of 2 (codes "OtherOpening") (field_of (codes "kept") (Hash kept) ∷ []) ∷ []
-open_fault_told (opening.Store fault) = told_of 3 (codes "Store") [] ∷ store_fault_told fault
-
 -- ---- how a call ended
 
 abbrev pub of_ledger_fault : LedgerFault → Ended
 of_ledger_fault (Store fault) = of_store_fault fault
 of_ledger_fault _ = refused
-
-abbrev pub of_ask_fault : AskFault → Ended
-of_ask_fault (ask.Store fault) = of_store_fault fault
-of_ask_fault _ = refused
-
-abbrev pub of_open_fault : OpenFault → Ended
-of_open_fault (opening.Store fault) = of_store_fault fault
-of_open_fault _ = refused
 
 -- a refusal of the book is the ledger's
 abbrev pub ledger_fault_of : BookFault → LedgerFault

@@ -1,5 +1,5 @@
-use Rattle.ledger_core.proofs.PaySteps.{pays}
-use Rattle.ledger_core.proofs.paying.pay.Goals as goal
+use Rattle.ledger_acts.proofs.PaySteps.{pays}
+use Rattle.ledger_acts.proofs.paying.pay.Goals as goal
 
 pub returns-clause-step : goal.returns-clause-step
 returns-clause-step g c =
