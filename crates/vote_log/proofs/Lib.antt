@@ -9,3 +9,5 @@ pub mod Lists
 pub mod Placed
 pub mod FirstDecisive
 pub mod Tallied
+pub mod RecordTexts
+pub mod Hashed

@@ -1,4 +1,6 @@
 pub mod Entry
+pub mod RecordTexts
+pub mod Heads
 pub mod Voting
 pub mod Places
 pub mod Deciding

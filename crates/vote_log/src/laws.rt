@@ -1,9 +1,13 @@
 //! Laws of logs. Each is the contract of an empty function.
 
 ghost use Rattle.std.specs.Prelude.{◌≡◌, ◌↔◌, ◌≢◌, ◌<◌, ◌≤◌, ◌+◌, ◌++◌, ◌∷◌, [], ℕ, List, Some, None, IsSome, length};
+ghost use Rattle.std.specs.List.{AllByRecursion};
 ghost use Rattle.dh_base.specs.declared.id.Id.{Id};
 ghost use Rattle.dh_base.specs.declared.outcome.Outcome.{Outcome};
+ghost use Rattle.dh_base.specs.Formats.{TakesWhatIsSpelled, SpelledBy};
 ghost use Rattle.vote_log.specs.Entry.{Entry};
+ghost use Rattle.vote_log.specs.RecordTexts.{IsRecord, record_text, record_from};
+ghost use Rattle.vote_log.specs.Heads.{HaveNoCollision, head_after, head_texts};
 ghost use Rattle.vote_log.specs.Deciding.{outcome_of};
 ghost use Rattle.vote_log.specs.Places.{HoldsAt, IsFirstStart, IsDecisive, IsFirstDecisive};
 ghost use Rattle.vote_log.specs.Owed.{owed_of};
@@ -42,4 +46,22 @@ pub fn votes_fit()
         vote.kind ≢ Start → add_refusal log limit vote ≢ Some (LogFull len owed) }
     ensures fits { (log : List Entry) (limit : ℕ) (vote : Entry) → IsLog log limit →
         vote.kind ≢ Start → add_refusal log limit vote ≡ None → length log < limit }
+{}
+
+/// A record is taken at a place exactly where its text stands there, and no two records have one
+/// text.
+pub fn records_taken()
+    ensures taken { TakesWhatIsSpelled record_from (SpelledBy IsRecord record_text) }
+    ensures one { (rec other : Entry) → IsRecord rec → IsRecord other
+        → record_text rec ≡ record_text other → rec ≡ other }
+{}
+
+/// Heads that are equal, of logs of one length, come from one log of one house, where no two texts
+/// that are hashed for them have one digest.
+pub fn heads_determine()
+    ensures { (house other : Id) (log more : List Entry) → AllByRecursion IsRecord log
+        → AllByRecursion IsRecord more
+        → HaveNoCollision (head_texts house log ++ head_texts other more)
+        → length log ≡ length more → head_after house log ≡ head_after other more →
+        (house ≡ other) × (log ≡ more) }
 {}
