@@ -1,6 +1,7 @@
 //! The ids were computed outside, by a program of its own.
 
 mod quorums;
+mod seat_texts;
 
 use super::*;
 use dh_base::Id;
