@@ -6,6 +6,8 @@ pub mod Cells
 pub mod RowsKept
 pub mod Histories
 pub mod ActsStand
+pub mod KnownDeals
 pub mod PaymentsStand
 pub mod EscrowsStand
 pub mod TransfersStand
+pub mod RegistrationsStand

@@ -12,6 +12,7 @@ use Rattle.dh_base.specs.Ids.{same_id}
 use Rattle.dh_base.specs.Names.{is_name}
 use Rattle.dh_base.proofs.SameIds.{id_from_same, same_id-self}
 use Rattle.escrow_book.specs.History.{History, free_of, if_commit_of, if_abort_of, moves_of, settlement_of}
+use Rattle.escrow_book.proofs.Lookups.{or_none, or_assoc}
 use Rattle.keeper_core.specs.Tables.{Tables}
 use Rattle.keeper_core.specs.NumberedRows.{IsNumbered}
 use Rattle.keeper_core.proofs.Batched.{at_itself}
@@ -119,15 +120,18 @@ apart_moves key d p other = elim (cases_Bool (same_id (first_id key) d && same_i
       absurd cc
 ]
 
-registrations_stay : (entries : List Entry) (e : Entry) (d : Id) → registered_by d e ≡ None → registration_of (entries ++ e ∷ []) d ≡ registration_of entries d
-registrations_stay [] e d none = ap (λ (o : Option (Id × List ℕ)). option_or o None) none
-registrations_stay (first ∷ entries) e d none = ap (λ (o : Option (Id × List ℕ)). option_or (registered_by d first) o) (registrations_stay entries e d none)
+pub registrations_more : (entries : List Entry) (e : Entry) (d : Id) → registration_of (entries ++ e ∷ []) d ≡ option_or (registration_of entries d) (registered_by d e)
+registrations_more [] e d = or_none (registered_by d e)
+registrations_more (first ∷ entries) e d =
+    ap (λ (o : Option (Id × List ℕ)). option_or (registered_by d first) o) (registrations_more entries e d) ∙ or_assoc (registered_by d first) (registration_of entries d) (registered_by d e)
 
--- an entry that registers and settles no deal leaves their rows
-pub kept_deal : (h later : History) (entries : List Entry) (e : Entry) (key : List ℕ) → ((d : Id) → registered_by d e ≡ None) → ((d : Id) → settlement_of later d ≡ settlement_of h d) → deal_row later (entries ++ e ∷ []) key ≡ deal_row h entries key
+registrations_stay : (entries : List Entry) (e : Entry) (d : Id) → registered_by d e ≡ None → registration_of (entries ++ e ∷ []) d ≡ registration_of entries d
+registrations_stay entries e d none = registrations_more entries e d ∙ ap (λ (o : Option (Id × List ℕ)). option_or (registration_of entries d) o) none ∙ or_none (registration_of entries d)
+
+-- an entry that registers and settles no deal of that key leaves its row
+pub kept_deal : (h later : History) (entries : List Entry) (e : Entry) (key : List ℕ) → registered_by (record { 0 = key }) e ≡ None → settlement_of later (record { 0 = key }) ≡ settlement_of h (record { 0 = key }) → deal_row later (entries ++ e ∷ []) key ≡ deal_row h entries key
 kept_deal h later entries e key none same =
-    let d : Id = record { 0 = key } in
-    λ i. option_map (λ by. registration_text (record { registrant = by.0; settled = same d i; text = by.1 })) (registrations_stay entries e d (none d) i)
+    λ i. option_map (λ by. registration_text (record { registrant = by.0; settled = same i; text = by.1 })) (registrations_stay entries e (record { 0 = key }) none i)
 
 -- ---- keys that have signed
 

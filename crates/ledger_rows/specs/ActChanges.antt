@@ -1,14 +1,14 @@
 -- The changes of accepted acts to a ledger's tables, and what the tables stand for then.
-use Rattle.std.specs.Prelude.{ℕ, ◌≡◌, ◌+◌, ◌<◌, ◌^◌, List, [], ◌∷◌, ◌++◌, length, None, IsTrue, Ok}
+use Rattle.std.specs.Prelude.{ℕ, ◌≡◌, ◌+◌, ◌<◌, ◌^◌, Bool, if◌then◌else◌, List, [], ◌∷◌, ◌++◌, length, None, IsTrue, Ok}
 use Rattle.dh_base.specs.declared.id.Id.{Id}
 use Rattle.dh_base.specs.Names.{is_name}
-use Rattle.act_text.specs.declared.act.Act.TheVariants.{Pay, Escrow, Transfer}
+use Rattle.act_text.specs.declared.act.Act.TheVariants.{Register, Pay, Escrow, Transfer}
 use Rattle.act_text.specs.declared.office.Office.TheVariants.{Ledger}
 use Rattle.act_text.specs.ActReading.{act_of}
 use Rattle.escrow_book.specs.declared.change.Change.TheVariants.{Paid, Escrowed, Transferred}
 use Rattle.escrow_book.specs.Opening.{Row}
-use Rattle.escrow_book.specs.History.{with_change, free_of, moves_of}
-use Rattle.escrow_book.specs.Reached.{IsReached, IsAccepted}
+use Rattle.escrow_book.specs.History.{is_known, with_change, free_of, moves_of}
+use Rattle.escrow_book.specs.Reached.{are_parties, IsReached, IsAccepted}
 use Rattle.escrow_book.specs.Refused.{pay_refusal, escrow_refusal}
 use Rattle.keeper_core.specs.declared.change.Change.{Change}
 use Rattle.keeper_core.specs.Tables.{Tables}
@@ -16,8 +16,9 @@ use Rattle.keeper_core.specs.Batches.{after_batch}
 use Rattle.ledger_rows.specs.declared.entry.Entry.{Entry}
 use Rattle.ledger_rows.specs.declared.entry.Entry.TheVariants.{Act}
 use Rattle.ledger_rows.specs.declared.hold.Hold.{Hold}
-use Rattle.ledger_rows.specs.RowChanges.{free_change, hold_change, moves_change, used_change, entry_change}
-use Rattle.ledger_rows.specs.Entries.{digest_of, book_of, used_of}
+use Rattle.ledger_rows.specs.declared.registration.Registration.{Registration}
+use Rattle.ledger_rows.specs.RowChanges.{free_change, deal_change, hold_change, moves_change, used_change, entry_change}
+use Rattle.ledger_rows.specs.Entries.{digest_of, parties_in, book_of, used_of}
 use Rattle.ledger_rows.specs.LedgerTables.{hold_of, StandsFor}
 
 -- The key has signed the act, which is the entry of that number.
@@ -101,3 +102,26 @@ TransferStands = (tables : Tables) (opening : List Row) (entries : List Entry)
     (hold_of later deal from asset) (hold_of later deal to asset)
     (act_changes (length entries + 1) from q message)) tables)
     opening (entries ++ Act from q message ∷ [])
+
+-- what an account registers by a deal's text, while the deal has not ended
+abbrev pub new_registration : Id → List ℕ → Registration
+new_registration account text = record { registrant = account; settled = None; text = text }
+
+-- The deal, where it was unknown, and the act. A deal that is registered stays as it is.
+abbrev pub registration_changes : Bool → Id → Registration → List Change → List Change
+registration_changes known deal registration act =
+    if known then act else deal_change deal registration ∷ act
+
+-- The same of an accepted registration.
+abbrev pub RegistrationStands : Type 0
+RegistrationStands = (tables : Tables) (opening : List Row) (entries : List Entry)
+    (account : Id) (q : ℕ) (message : List ℕ) (text : List ℕ) →
+    let book = book_of opening entries in
+    StandsFor tables opening entries → IsReached book → IsNew entries account q →
+    act_of Ledger message ≡ Ok (Register text) → IsTrue (are_parties (parties_in text)) →
+    length entries < 2 ^ 63 →
+    StandsFor
+    (after_batch
+    (registration_changes (is_known book (digest_of text)) (digest_of text)
+    (new_registration account text) (act_changes (length entries + 1) account q message)) tables)
+    opening (entries ++ Act account q message ∷ [])

@@ -1,6 +1,6 @@
 //! Laws of the rows of a ledger.
 
-ghost use Rattle.ledger_rows.specs.ActChanges.{PaymentStands, EscrowStands, TransferStands};
+ghost use Rattle.ledger_rows.specs.ActChanges.{PaymentStands, EscrowStands, TransferStands, RegistrationStands};
 ghost use Rattle.ledger_rows.specs.RowKeys.{FreeKeysRead, HoldKeysRead, MovesKeysRead, UsedKeysRead};
 ghost use Rattle.ledger_rows.specs.RowValues.{StandsForSpelled, free_in, FreeFits, free_text, registration_in, RegistrationFits, registration_text, hold_in, HoldFits, hold_text, moves_in, MovesFit, moves_text, used_in, UsedFits, used_text, entry_in, EntryFits, entry_text};
 
@@ -36,4 +36,9 @@ pub fn escrow_stands()
 /// The same of an accepted transfer.
 pub fn transfer_stands()
     ensures { TransferStands }
+{}
+
+/// The same of an accepted registration, whether the deal was registered before or not.
+pub fn registration_stands()
+    ensures { RegistrationStands }
 {}
