@@ -16,7 +16,7 @@ use Rattle.deal_core.specs.Deals.{DealTold, index_of_account}
 use Rattle.deal_core.specs.Reading.{Answers}
 use Rattle.escrow_book.specs.declared.fault.BookFault.{BookFault}
 use Rattle.escrow_book.specs.Opening.{Row}
-use Rattle.escrow_book.specs.History.{History, is_known, settlement_of}
+use Rattle.escrow_book.specs.History.{is_known}
 use Rattle.escrow_book.specs.Refused as book
 use Rattle.key_ring.specs.declared.env_fault.EnvFault.{EnvFault}
 use Rattle.key_ring.specs.declared.envelope.Envelope.{Envelope}
@@ -25,7 +25,8 @@ use Rattle.key_ring.specs.Saying.{Says}
 use Rattle.ledger_rows.specs.declared.entry.Entry.{Entry}
 use Rattle.ledger_rows.specs.declared.entry.Entry.TheVariants.{Act as Accepted, Settlement}
 use Rattle.ledger_rows.specs.declared.used_key.UsedKey.{UsedKey}
-use Rattle.ledger_rows.specs.Entries.{digest_of, registration_of, used_of, book_of}
+use Rattle.ledger_rows.specs.Entries.{digest_of, used_of, book_of}
+use Rattle.ledger_rows.specs.OpenDeals.{open_deals}
 use Rattle.ledger_acts.specs.declared.ledger_fault.LedgerFault.{LedgerFault}
 use Rattle.ledger_acts.specs.declared.ledger_fault.LedgerFault.TheVariants.{BadEnvelope, BadAct, KeyReused, WrongLedger, BadDeal, WrongHouse, NotAParty, DealsFull, LedgerFull}
 use Rattle.ledger_acts.specs.LedgerFaults.{ledger_fault_of}
@@ -72,33 +73,6 @@ abbrev pub full : ℕ → Option LedgerFault
 full acts = if nat_le most_acts acts then Some (LedgerFull most_acts) else None
 
 -- ---- registrations
-
-abbrev pub deal_of : Result Act ActFault → Option Id
-deal_of (Ok (Register text)) = Some (digest_of text)
-deal_of _ = None
-
--- the deal that the entry registers, if it is an act of the account
-abbrev pub deal_by : Id → Entry → Option Id
-deal_by account (Accepted owner q message) =
-    if same_id account owner then deal_of (act_of Ledger message) else None
-deal_by account (Settlement deal outcome) = None
-
--- the deal isn't settled, and no entry of those before registers it
-abbrev pub is_new_open : History → List Entry → Option Id → Bool
-is_new_open later before None = false
-is_new_open later before (Some deal) =
-    if is_some (settlement_of later deal) then false
-    else if is_some (registration_of before deal) then false else true
-
--- how many deals the account has registered that aren't settled
-abbrev pub open_behind : History → Id → List Entry → List Entry → ℕ
-open_behind later account before [] = 0
-open_behind later account before (entry ∷ entries) =
-    (if is_new_open later before (deal_by account entry) then 1 else 0)
-    + open_behind later account (before ++ entry ∷ []) entries
-
-abbrev pub open_deals : List Row → List Entry → Id → ℕ
-open_deals rows entries account = open_behind (book_of rows entries) account [] entries
 
 abbrev pub not_its_party : DealTold → Id → Option LedgerFault
 not_its_party deal account =

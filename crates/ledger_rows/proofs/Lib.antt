@@ -1,4 +1,5 @@
 pub mod RowReads
+pub mod TableReads
 pub mod ReadValues
 pub mod ValuesSpelled
 pub mod KeysSpelled
@@ -11,3 +12,5 @@ pub mod PaymentsStand
 pub mod EscrowsStand
 pub mod TransfersStand
 pub mod RegistrationsStand
+pub mod DealRows
+pub mod OpenCounted

@@ -236,7 +236,7 @@ registration_spelled val deal e =
 registration_if : Bool → List ℕ → Option (Option Outcome) → List ℕ → Option Registration
 registration_if short registrant settled text = if short then None else option_map (λ s. record { registrant = record { 0 = registrant }; settled = s; text = text }) settled
 
-spelled_registration : (deal : Registration) → RegistrationFits deal → registration_in (registration_text deal) ≡ Some deal
+pub spelled_registration : (deal : Registration) → RegistrationFits deal → registration_in (registration_text deal) ≡ Some deal
 unfolding registration_if
 spelled_registration deal fits =
     let val : List ℕ = registration_text deal in

@@ -4,4 +4,5 @@ pub mod RowReading
 pub mod RowChanges
 pub mod Entries
 pub mod LedgerTables
+pub mod OpenDeals
 pub mod ActChanges

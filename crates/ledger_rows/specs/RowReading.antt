@@ -1,10 +1,10 @@
 -- What a call that reads rows of a keeper answers, and what it leaves.
-use Rattle.std.specs.Prelude.{ℕ, ◌≡◌, ◌==◌, Bool, true, false, if◌then◌else◌, List, [], Option, Some, None, is_some, IfErr, Result}
+use Rattle.std.specs.Prelude.{ℕ, ◌≡◌, ◌+◌, ◌≤◌, ◌==◌, Bool, true, false, if◌then◌else◌, List, [], ◌∷◌, length, Option, Some, None, is_some, IfErr, Result}
 use Rattle.std.specs.Option.{option_map, option_or}
 use Rattle.std.specs.FinMap.{get}
 use Rattle.keeper_core.specs.declared.row.Row.{Row}
 use Rattle.keeper_core.specs.declared.store_fault.StoreFault.{StoreFault}
-use Rattle.keeper_core.specs.Tables.{Tables}
+use Rattle.keeper_core.specs.Tables.{Tables, rows_of}
 use Rattle.keeper_core.specs.Knowing.{Known, LooksAtMost}
 use Rattle.keeper_core.specs.Leaving.{Leaves, ended, of_store_fault}
 use Rattle.keeper_core.specs.Stepping.{WhereTold, IsReply}
@@ -56,6 +56,38 @@ ReadsRow value_of tab key =
     Reads 1 (row_at value_of tab key)
     (λ tables. form_refusal tab key (row_at value_of tab key tables))
     (LacksFormAt value_of tab key)
+
+-- ---- a whole table
+
+-- the first row whose bytes stand for nothing
+abbrev pub first_formless : {V : Type 0} → (List ℕ → Option V) → List Row → Option Row
+first_formless value_of [] = None
+first_formless value_of (row ∷ rows) =
+    if is_some (value_of row.val) then first_formless value_of rows else Some row
+
+-- the first of the rows is named that has not its form
+abbrev pub forms_refusal : {V : Type 0} → (List ℕ → Option V) → ℕ → List Row → Option StoreFault
+forms_refusal value_of tab rows =
+    option_map (λ (row : Row). bad_row_of tab row.key) (first_formless value_of rows)
+
+-- So many rows are looked up at most beside all of the table, where they are told.
+abbrev pub LooksThrough : ℕ → ℕ → Known → Known → Type 0
+LooksThrough tab rows before after =
+    (before.looked ≤ after.looked)
+    × WhereTold before after (λ tables.
+    after.looked ≤ before.looked + (rows + length (rows_of tab tables)))
+
+-- The call reads all rows of the table: what is said of them, or the first that lacks its form is
+-- named. It changes nothing.
+pub record ReadsTable {A V : Type 0} (value_of : List ℕ → Option V) (tab : ℕ)
+    (said : List Row → A) (LacksForm : ℕ → Row → Type 0) (result : Result A StoreFault)
+    (before after : Known) : Type 0 where
+  pub reply : WhereTold before after (λ tables.
+      IsReply of_store_fault (forms_refusal value_of tab (rows_of tab tables))
+      (λ answer. answer ≡ said (rows_of tab tables)) result)
+  pub cause : IfErr result (HasCause LacksForm after.tables)
+  pub leaves : Leaves [] (ended of_store_fault result) before after
+  pub looked : LooksThrough tab 1 before after
 
 -- ---- one reading behind another
 

@@ -1,6 +1,7 @@
 //! Laws of the rows of a ledger.
 
 ghost use Rattle.ledger_rows.specs.ActChanges.{PaymentStands, EscrowStands, TransferStands, RegistrationStands};
+ghost use Rattle.ledger_rows.specs.OpenDeals.{OpenDealsCounted};
 ghost use Rattle.ledger_rows.specs.RowKeys.{FreeKeysRead, HoldKeysRead, MovesKeysRead, UsedKeysRead};
 ghost use Rattle.ledger_rows.specs.RowValues.{StandsForSpelled, free_in, FreeFits, free_text, registration_in, RegistrationFits, registration_text, hold_in, HoldFits, hold_text, moves_in, MovesFit, moves_text, used_in, UsedFits, used_text, entry_in, EntryFits, entry_text};
 
@@ -41,4 +42,10 @@ pub fn transfer_stands()
 /// The same of an accepted registration, whether the deal was registered before or not.
 pub fn registration_stands()
     ensures { RegistrationStands }
+{}
+
+/// As many deals of an account are open by the rows of a told table as by the history that the
+/// tables stand for.
+pub fn open_deals_counted()
+    ensures { OpenDealsCounted }
 {}

@@ -7,6 +7,7 @@
 //! - `free_amount`, `registration`, `hold`, `move_count`, `used_key`, `entry`: the values of rows,
 //!   a type for each table
 //! - `reading`: reading the rows of each table
+//! - `open_deals`: counting the deals that an account has registered and that are not settled
 //! - `row_value`: what the values of all tables have in common, and reading a row
 #![tactic(auto)]
 
@@ -18,6 +19,7 @@ pub mod hold;
 pub mod keys;
 pub mod laws;
 pub mod move_count;
+pub mod open_deals;
 pub mod reading;
 pub mod registration;
 pub mod row_value;
@@ -29,6 +31,7 @@ pub use entry::Entry;
 pub use free_amount::FreeAmount;
 pub use hold::Hold;
 pub use move_count::MoveCount;
+pub use open_deals::count_open;
 pub use reading::{read_free, read_hold, read_moves, read_registration, read_used};
 pub use registration::Registration;
 pub use row_value::{RowValue, read_row};

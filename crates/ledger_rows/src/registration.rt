@@ -13,6 +13,25 @@ pub struct Registration {
     pub text: List<u8>,
 }
 
+impl Registration {
+    ghost use Rattle.std.specs.Prelude.{◌≡◌};
+    ghost use Rattle.std.specs.Option.{option_map};
+    ghost use Rattle.ledger_rows.specs.OpenDeals.{is_open_by};
+    ghost use Rattle.ledger_rows.specs.RowValues.{registration_in};
+
+    /// Whether bytes, if they have the form, are a deal that the account has registered and that
+    /// is not settled.
+    pub(crate) fn is_open_in(bytes: &[u8], account: &Id) -> Option<bool>
+        ensures { result ≡ option_map (is_open_by account.now) (registration_in bytes.now) }
+    {
+        if bytes.len() < 33 {
+            return None;
+        }
+        let settled = settled_in(bytes[32])?;
+        Some(*account == id_at(bytes, 0) && settled.is_none())
+    }
+}
+
 impl RowValue for Registration {
     ghost use Rattle.ledger_rows.specs.RowValues.{registration_in};
 

@@ -237,3 +237,44 @@ fn a_row_of_another_form_is_named(rt: HostRuntime) -> Result<(), Fail> {
     );
     Ok(())
 }
+
+fn register(
+    alloc: Global,
+    batch: &mut Batch,
+    deal: &Id,
+    registrant: Id,
+    settled: Option<Outcome>,
+) -> Result<(), Fail> {
+    let registration = Registration {
+        registrant,
+        settled,
+        text: bytes(alloc, b"deal")?,
+    };
+    put_registration(alloc, batch, deal, &registration)?;
+    Ok(())
+}
+
+#[test]
+fn open_deals_are_counted(rt: HostRuntime) -> Result<(), Fail> {
+    let alloc = rt.alloc();
+    let mut batch = Batch::new(alloc);
+    register(alloc, &mut batch, &Id([1; 32]), ANN, None)?;
+    register(alloc, &mut batch, &Id([2; 32]), ANN, Some(Outcome::Commit))?;
+    register(alloc, &mut batch, &Id([3; 32]), ANN, Some(Outcome::Abort))?;
+    register(alloc, &mut batch, &Id([4; 32]), ANN, None)?;
+    register(alloc, &mut batch, &Id([5; 32]), BEN, None)?;
+    let mut keeper = MemKeeper::new(alloc);
+    assert_eq!(rt; count_open(&mut keeper, &ANN)?, 0);
+    keeper.commit(&batch)?;
+    assert_eq!(rt; count_open(&mut keeper, &ANN)?, 2);
+    assert_eq!(rt; count_open(&mut keeper, &BEN)?, 1);
+    let mut bad = Batch::new(alloc);
+    bad.put(DEAL_TAB, b"key", &[0; 32])?;
+    keeper.commit(&bad)?;
+    let fault = StoreFault::BadRow {
+        tab: 3,
+        key: digest(b"key"),
+    };
+    assert_eq!(rt; count_open(&mut keeper, &ANN).err(), Some(fault));
+    Ok(())
+}
