@@ -1,5 +1,7 @@
 //! Logs worked out by hand.
 
+mod texts;
+
 ghost use Rattle.std.specs.Prelude.{◌≤◌, ◌<◌};
 ghost use Rattle.dh_base.specs.Limits.{most_parties};
 
