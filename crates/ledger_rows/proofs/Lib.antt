@@ -14,3 +14,4 @@ pub mod TransfersStand
 pub mod RegistrationsStand
 pub mod DealRows
 pub mod OpenCounted
+pub mod RoomReads

@@ -45,26 +45,26 @@ lacks_form {V} value_of tab key val before after nothing stands look looked =
 
 -- ---- one reading behind another
 
-told_both : (P Q R : Tables → Type 0) (before mid after : Option Tables) → KeepsTold before mid → IfSome after (λ _. IsSome mid) → ((tables : Tables) → P tables → Q tables → R tables) →
+pub told_both : (P Q R : Tables → Type 0) (before mid after : Option Tables) → KeepsTold before mid → IfSome after (λ _. IsSome mid) → ((tables : Tables) → P tables → Q tables → R tables) →
     IfSome mid (λ _. IfSome before P) → IfSome after (λ _. IfSome mid Q) → IfSome after (λ _. IfSome before R)
 told_both P Q R before mid None keeps told both p q = tt
 told_both P Q R before None (Some later) keeps told both p q = absurd cc
 told_both P Q R None (Some middle) (Some later) keeps told both p q = tt
 told_both P Q R (Some tables) (Some middle) (Some later) keeps told both p q = both tables p (subst Q (is_told middle tables keeps) q)
 
-told_one : (P R : Tables → Type 0) (before after : Option Tables) → ((tables : Tables) → P tables → R tables) → IfSome after (λ _. IfSome before P) → IfSome after (λ _. IfSome before R)
+pub told_one : (P R : Tables → Type 0) (before after : Option Tables) → ((tables : Tables) → P tables → R tables) → IfSome after (λ _. IfSome before P) → IfSome after (λ _. IfSome before R)
 told_one P R before None on p = tt
 told_one P R None (Some later) on p = tt
 told_one P R (Some tables) (Some later) on p = on tables p
 
 -- the first fault of two
-first_refused : (how : Ended) (one other : Option StoreFault) (fault : StoreFault) → IsRefusal how one fault → IsRefusal how (option_or one other) fault
+pub first_refused : (how : Ended) (one other : Option StoreFault) (fault : StoreFault) → IsRefusal how one fault → IsRefusal how (option_or one other) fault
 first_refused done one other fault is = is
 first_refused failed one other fault is = tt
 first_refused starved one other fault is = tt
 first_refused refused one other fault is = ap (λ (o : Option StoreFault). option_or o other) is
 
-second_refused : (how : Ended) (one other : Option StoreFault) (fault : StoreFault) → one ≡ None → IsRefusal how other fault → IsRefusal how (option_or one other) fault
+pub second_refused : (how : Ended) (one other : Option StoreFault) (fault : StoreFault) → one ≡ None → IsRefusal how other fault → IsRefusal how (option_or one other) fault
 second_refused how one other fault none is = subst (λ (o : Option StoreFault). IsRefusal how (option_or o other) fault) (sym none) is
 
 module _ {A B : Type 0} (m n : ℕ) (said : Tables → Option A) (said' : Tables → Option B) (refusal refusal' : Tables → Option StoreFault) (L : ℕ → Row → Type 0) where

@@ -7,9 +7,9 @@ use Rattle.keeper_core.specs.declared.row.Row.{Row}
 use Rattle.keeper_core.specs.declared.store_fault.StoreFault.{StoreFault}
 use Rattle.keeper_core.specs.Keeping.{ListsTable}
 use Rattle.keeper_core.specs.Knowing.{Known, LooksAtMost}
-use Rattle.keeper_core.specs.Leaving.{done, refused, of_store_fault, Leaves}
-use Rattle.keeper_core.specs.Stepping.{WhereTold, IsReply}
-use Rattle.keeper_core.specs.StoreFaults.{bad_row_of, HasCause}
+use Rattle.keeper_core.specs.Leaving.{done, refused, Leaves}
+use Rattle.keeper_core.specs.Stepping.{WhereTold}
+use Rattle.keeper_core.specs.StoreFaults.{bad_row_of}
 use Rattle.keeper_core.specs.Tables.{Tables, rows_of}
 use Rattle.keeper_core.proofs.Leaving.{if_some, read_and}
 use Rattle.keeper_core.proofs.OneListing.{here, later_on}
@@ -40,7 +40,10 @@ module _ {A V : Type 0} (value_of : List ℕ → Option V) (tab : ℕ) (said : L
   through : LooksThrough tab 1 before after
   through = (looked.0, of_table (λ rs. after.looked ≤ before.looked + (1 + length rs)) looked.1)
 
-  table_refused : (row : Row) → first_formless value_of rows ≡ Some row → ReadsTable value_of tab said L (Err (bad_row_of tab row.key)) before after
+  abbrev Answers : Result A StoreFault → Known → Known → Type 0
+  Answers = ReadsTable 1 tab (λ tables. Some (said (rows_of tab tables))) (λ tables. forms_refusal value_of tab (rows_of tab tables)) L
+
+  table_refused : (row : Row) → first_formless value_of rows ≡ Some row → Answers (Err (bad_row_of tab row.key)) before after
   table_refused row first =
       let found = found_formless value_of rows row first in
       record {
@@ -55,13 +58,13 @@ module _ {A V : Type 0} (value_of : List ℕ → Option V) (tab : ℕ) (said : L
         looked = through;
       }
 
-  pub table_answers : (result : Result A StoreFault) → MatchResult result (λ answer. (first_formless value_of rows ≡ None) × (answer ≡ said rows)) (λ fault. forms_refusal value_of tab rows ≡ Some fault) → ReadsTable value_of tab said L result before after
+  pub table_answers : (result : Result A StoreFault) → MatchResult result (λ answer. (first_formless value_of rows ≡ None) × (answer ≡ said rows)) (λ fault. forms_refusal value_of tab rows ≡ Some fault) → Answers result before after
   table_answers (Ok answer) says = record {
-    reply = of_table (λ rs. (forms_refusal value_of tab rs ≡ None) × (answer ≡ said rs)) (ap (option_map (λ (r : Row). bad_row_of tab r.key)) says.0, says.1);
+    reply = of_table (λ rs. (forms_refusal value_of tab rs ≡ None) × (Some (said rs) ≡ Some answer)) (ap (option_map (λ (r : Row). bad_row_of tab r.key)) says.0, ap (λ (a : A). Some a) (sym says.1));
     cause = tt;
     leaves = looks;
     looked = through;
   }
   table_answers (Err fault) says =
       let row = named tab (first_formless value_of rows) fault says in
-      subst (λ (f : StoreFault). ReadsTable value_of tab said L (Err f) before after) row.2 (table_refused row.0 row.1)
+      subst (λ (f : StoreFault). Answers (Err f) before after) row.2 (table_refused row.0 row.1)

@@ -1,6 +1,7 @@
 -- The deals that an account has registered and that aren't settled, by entries and by rows.
 use Rattle.std.specs.Prelude.{ℕ, ◌≡◌, ◌+◌, Bool, true, false, not, ◌&&◌, if◌then◌else◌, List, [], ◌∷◌, ◌++◌, length, Option, Some, None, is_some, Result, Ok}
 use Rattle.std.specs.List.{count_by, AllByRecursion}
+use Rattle.std.specs.Option.{option_map, option_or}
 use Rattle.dh_base.specs.declared.id.Id.{Id}
 use Rattle.dh_base.specs.Ids.{same_id}
 use Rattle.act_text.specs.declared.act.Act.{Act}
@@ -11,6 +12,7 @@ use Rattle.act_text.specs.ActReading.{act_of}
 use Rattle.escrow_book.specs.Opening.{Row as OpeningRow}
 use Rattle.escrow_book.specs.History.{History, settlement_of}
 use Rattle.keeper_core.specs.declared.row.Row.{Row}
+use Rattle.keeper_core.specs.declared.store_fault.StoreFault.{StoreFault}
 use Rattle.keeper_core.specs.Tables.{Tables, rows_of}
 use Rattle.ledger_rows.specs.declared.entry.Entry.{Entry}
 use Rattle.ledger_rows.specs.declared.entry.Entry.TheVariants.{Act as Accepted, Settlement}
@@ -18,7 +20,7 @@ use Rattle.ledger_rows.specs.declared.registration.Registration.{Registration}
 use Rattle.ledger_rows.specs.Entries.{digest_of, registration_of, book_of}
 use Rattle.ledger_rows.specs.LedgerTables.{StandsFor}
 use Rattle.ledger_rows.specs.RowKeys.{deal_tab}
-use Rattle.ledger_rows.specs.RowReading.{first_formless}
+use Rattle.ledger_rows.specs.RowReading.{first_formless, forms_refusal, deal_said, deal_refusal}
 use Rattle.ledger_rows.specs.RowValues.{registration_in, EntryFits}
 
 -- ---- by the entries
@@ -65,6 +67,36 @@ is_open_row account row = is_open_if account (registration_in row.val)
 
 abbrev pub open_rows : Id → List Row → ℕ
 open_rows account rows = count_by (is_open_row account) rows
+
+-- ---- by the tables
+
+abbrev pub open_said : Id → Tables → Option ℕ
+open_said account tables = Some (open_rows account (rows_of deal_tab tables))
+
+-- the first row of a deal that lacks its form
+abbrev pub deals_refusal : Tables → Option StoreFault
+deals_refusal tables = forms_refusal registration_in deal_tab (rows_of deal_tab tables)
+
+-- how many deals are open, unless the deal is registered
+abbrev pub unless_registered : ℕ → Option Registration → Option ℕ
+unless_registered held None = Some held
+unless_registered held (Some deal) = None
+
+abbrev pub room_said : Id → Id → Tables → Option (Option ℕ)
+room_said account deal tables =
+    option_map (unless_registered (open_rows account (rows_of deal_tab tables)))
+    (deal_said deal tables)
+
+-- the refusal, unless the deal is registered
+abbrev pub refused_unless : Option StoreFault → Option (Option Registration) → Option StoreFault
+refused_unless refusal (Some None) = refusal
+refused_unless refusal _ = None
+
+-- The other deals are gone through only where the deal is unknown.
+abbrev pub room_refusal : Id → Tables → Option StoreFault
+room_refusal deal tables =
+    option_or (deal_refusal deal tables)
+    (refused_unless (deals_refusal tables) (deal_said deal tables))
 
 -- Where tables stand for a history of entries that have a spelling, each row of a deal has its
 -- form, and as many deals of an account are open by the rows as by the entries.

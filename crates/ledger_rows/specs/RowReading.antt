@@ -77,17 +77,16 @@ LooksThrough tab rows before after =
     × WhereTold before after (λ tables.
     after.looked ≤ before.looked + (rows + length (rows_of tab tables)))
 
--- The call reads all rows of the table: what is said of them, or the first that lacks its form is
--- named. It changes nothing.
-pub record ReadsTable {A V : Type 0} (value_of : List ℕ → Option V) (tab : ℕ)
-    (said : List Row → A) (LacksForm : ℕ → Row → Type 0) (result : Result A StoreFault)
-    (before after : Known) : Type 0 where
+-- The same of a call that goes through a table: it looks up so many rows beside those of the table,
+-- at most.
+pub record ReadsTable {A : Type 0} (rows tab : ℕ) (said : Tables → Option A)
+    (refusal : Tables → Option StoreFault) (LacksForm : ℕ → Row → Type 0)
+    (result : Result A StoreFault) (before after : Known) : Type 0 where
   pub reply : WhereTold before after (λ tables.
-      IsReply of_store_fault (forms_refusal value_of tab (rows_of tab tables))
-      (λ answer. answer ≡ said (rows_of tab tables)) result)
+      IsReply of_store_fault (refusal tables) (λ answer. said tables ≡ Some answer) result)
   pub cause : IfErr result (HasCause LacksForm after.tables)
   pub leaves : Leaves [] (ended of_store_fault result) before after
-  pub looked : LooksThrough tab 1 before after
+  pub looked : LooksThrough tab rows before after
 
 -- ---- one reading behind another
 

@@ -31,7 +31,7 @@ pub use entry::Entry;
 pub use free_amount::FreeAmount;
 pub use hold::Hold;
 pub use move_count::MoveCount;
-pub use open_deals::count_open;
+pub use open_deals::{count_open, count_open_unless};
 pub use reading::{read_free, read_hold, read_moves, read_registration, read_used};
 pub use registration::Registration;
 pub use row_value::{RowValue, read_row};

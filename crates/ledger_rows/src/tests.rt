@@ -268,6 +268,12 @@ fn open_deals_are_counted(rt: HostRuntime) -> Result<(), Fail> {
     keeper.commit(&batch)?;
     assert_eq!(rt; count_open(&mut keeper, &ANN)?, 2);
     assert_eq!(rt; count_open(&mut keeper, &BEN)?, 1);
+    let deal = Id([1; 32]);
+    assert_eq!(rt; count_open_unless(alloc, &mut keeper, &ANN, &deal)?, None);
+    assert_eq!(rt;
+        count_open_unless(alloc, &mut keeper, &ANN, &DEAL)?,
+        Some(2)
+    );
     let mut bad = Batch::new(alloc);
     bad.put(DEAL_TAB, b"key", &[0; 32])?;
     keeper.commit(&bad)?;
@@ -276,5 +282,10 @@ fn open_deals_are_counted(rt: HostRuntime) -> Result<(), Fail> {
         key: digest(b"key"),
     };
     assert_eq!(rt; count_open(&mut keeper, &ANN).err(), Some(fault));
+    assert_eq!(rt;
+        count_open_unless(alloc, &mut keeper, &ANN, &DEAL).err(),
+        Some(fault)
+    );
+    assert_eq!(rt; count_open_unless(alloc, &mut keeper, &ANN, &deal)?, None);
     Ok(())
 }
