@@ -37,6 +37,17 @@ impl Set {
     ghost use Rattle.cert_core.specs.Sets.{HasSeats};
     ghost use Rattle.cert_core.specs.Quorums.{quorum_size};
 
+    /// The same set once more. It takes no memory.
+    pub fn copied(&self) -> Set
+        ensures { result ≡ self.now }
+    {
+        Set {
+            epoch: self.epoch,
+            f: self.f,
+            seats: self.seats,
+        }
+    }
+
     /// The accounts of the seats.
     pub fn accounts(&self) -> &[Id]
         ensures value { result.now ≡ self.now.seats }

@@ -27,7 +27,7 @@ mod tallies;
 mod tally;
 
 pub use decision::{Decision, outcome};
-pub use heads::head_of;
+pub use heads::{first_head, head_of, head_onward};
 pub use kind::Kind;
 pub use log_fault::LogFault;
 pub use log_record::LogRecord;

@@ -2,10 +2,7 @@ use Rattle.std.proofs.Common.{◌≡◌, ◌+◌, ◌∷◌, ap, sym, ◌∙◌,
 use Rattle.std.proofs.lemmas.List.{at_drop_more, at_drop_all}
 use Rattle.dh_base.specs.declared.id.Id.{Id}
 use Rattle.vote_log.specs.Heads.{next_head, head_from}
-use Rattle.vote_log.proofs.heads.head_of.Goals as goal
-
-pub loop-rec-init : goal.loop-rec-init
-loop-rec-init c = ap (λ (h : Id). head_from h c.args.recs.now) c.first_head-head.ensures
+use Rattle.vote_log.proofs.heads.head_onward.Goals as goal
 
 pub loop-rec-preserved : goal.loop-rec-preserved
 loop-rec-preserved c =
