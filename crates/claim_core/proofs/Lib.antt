@@ -1,0 +1,5 @@
+pub mod Fitting
+pub mod Formats
+pub mod Leading
+pub mod Listed
+pub mod Walked
