@@ -11,3 +11,4 @@ pub mod FirstDecisive
 pub mod Tallied
 pub mod RecordTexts
 pub mod Hashed
+pub mod Votable

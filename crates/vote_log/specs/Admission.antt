@@ -1,5 +1,6 @@
 -- Which records a log takes.
 use Rattle.std.specs.Prelude.{ℕ, ◌≡◌, ◌+◌, nat_lt, nat_le, if◌then◌else◌, Option, Some, None, Result, Ok, Err, List, [], ◌∷◌, ◌++◌, length, replicate}
+use Rattle.std.specs.Option.{option_map}
 use Rattle.dh_base.specs.declared.id.Id.{Id}
 use Rattle.vote_log.specs.declared.decision.Decision.{Decision}
 use Rattle.vote_log.specs.declared.kind.Kind.{Kind}
@@ -9,6 +10,10 @@ use Rattle.vote_log.specs.declared.log_fault.LogFault.TheVariants.{NotAParty, St
 use Rattle.vote_log.specs.Entry.{Entry}
 use Rattle.vote_log.specs.Deciding.{Started, first_start, commit_place, outcome_of}
 use Rattle.vote_log.specs.Owed.{owed_of}
+
+-- of how many parties the deal is that the log starts
+abbrev pub parties_started : List Entry → Id → Option ℕ
+parties_started log deal = option_map (λ (start : Started). start.parties) (first_start log deal)
 
 -- how many parties may vote on a deal, by its start and its decision
 abbrev pub votable_by : Option Started → Option Decision → Result ℕ LogFault

@@ -3,7 +3,7 @@
 ghost use Rattle.std.specs.Prelude.{◌≡◌, ◌≤◌, ◌<◌, ◌^◌, ◌++◌, ◌∷◌, [], Ok, Err, None, Some, length, OnOk, OnErr, IfOk, IfErr};
 ghost use Rattle.std.specs.Option.{MatchOption};
 ghost use Rattle.vote_log.specs.Deciding.{outcome_of};
-ghost use Rattle.vote_log.specs.Admission.{add_refusal, votable_of, IsLog, IsRefusal};
+ghost use Rattle.vote_log.specs.Admission.{add_refusal, parties_started, votable_of, IsLog, IsRefusal};
 
 use crate::admission::{refusal, votable_by};
 use crate::decision::Decision;
@@ -71,6 +71,13 @@ impl Records {
         ensures { result ≡ votable_of self.now.entries deal.now }
     {
         votable_by(&self.tallies.get(deal).copied())
+    }
+
+    /// How many parties the deal has, if it is started. It takes no memory.
+    pub fn parties(&self, deal: &Id) -> Option<u16>
+        ensures { result ≡ parties_started self.now.entries deal.now }
+    {
+        Some(self.tallies.get(deal)?.parties)
     }
 
     /// What the log decides of the deal, and where: the `outcome` of its records. It takes no

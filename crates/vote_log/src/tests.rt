@@ -106,6 +106,8 @@ fn decided_by_tallies(rt: HostRuntime) {
     assert_eq!(rt; log.decision(&other), None);
     assert_eq!(rt; log.decision(&Id([9; 32])), None);
     assert_eq!(rt; log.votable(&other), Ok(3));
+    assert_eq!(rt; log.parties(&DEAL), Some(2));
+    assert_eq!(rt; log.parties(&Id([9; 32])), None);
 }
 
 #[test]
