@@ -1,0 +1,4 @@
+pub mod DealTexts
+pub mod Postings
+pub mod AdmitFaults
+pub mod VoteLogs
