@@ -1,5 +1,5 @@
 -- What the lines of a deal's text come to, line by line, and the fault of each.
-use Rattle.std.specs.Prelude.{ℕ, ◌+◌, ◌-◌, ◌^◌, Bool, true, false, not, ◌&&◌, ◌||◌, ◌==◌, nat_le, nat_lt, if◌then◌else◌, List, [], ◌∷◌, ◌++◌, length, Option, Some, None, is_some, Result, Ok, Err}
+use Rattle.std.specs.Prelude.{ℕ, ◌+◌, ◌-◌, ◌^◌, Bool, true, false, not, ◌&&◌, ◌||◌, ◌==◌, nat_le, nat_lt, if◌then◌else◌, List, [], ◌∷◌, ◌++◌, length, map, Option, Some, None, is_some, Result, Ok, Err}
 use Rattle.std.specs.List.{list_any}
 use Rattle.std.specs.Option.{unwrap_or}
 use Rattle.std.specs.Str.{bytes_eq}
@@ -141,3 +141,13 @@ reading_behind draft (line ∷ lines) =
 -- what reading a text gives, aside from whether the deal is connected
 abbrev pub reading_of : List ℕ → Result Draft DealFault
 reading_of text = reading_behind no_lines (lines_of text)
+
+-- ---- the parties
+
+abbrev pub accounts_in : Result Draft DealFault → List Id
+accounts_in (Ok draft) = map (λ (party : Party). party.account) draft.parties
+accounts_in (Err fault) = []
+
+-- the accounts of the parties of a deal, by its text
+abbrev pub parties_in : List ℕ → List Id
+parties_in text = accounts_in (reading_of text)

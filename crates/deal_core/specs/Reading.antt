@@ -54,6 +54,11 @@ IsFaultOf text (ZeroAmount line) = reading_of text ≡ Err (ZeroAmount line)
 IsFaultOf text (TooMany line) = reading_of text ≡ Err (TooMany line)
 IsFaultOf text (SumTooLarge line) = reading_of text ≡ Err (SumTooLarge line)
 
+-- the fault is that of a line; memory may run out at any text
+abbrev pub IsLineFault : List ℕ → DealFault → Type 0
+IsLineFault text NoMemory = Unit {0}
+IsLineFault text fault = reading_of text ≡ Err fault
+
 -- the text is the deal's
 pub record IsTextOf (deal : DealTold) (text : List ℕ) : Type 0 where
   pub kept : IsDeal deal

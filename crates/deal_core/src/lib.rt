@@ -27,7 +27,7 @@ pub mod writing;
 pub use deal::{Deal, matrix, party_of};
 pub use deal_fault::DealFault;
 pub use party::Party;
-pub use reading::read_deal;
+pub use reading::{parties_in, read_deal};
 pub use step::Step;
 pub use writing::write_deal;
 

@@ -1,5 +1,13 @@
-pub mod PayCalls
-pub mod PayAgrees
-pub mod PaySteps
+pub mod Answering
+pub mod RowCalls
 pub mod Onces
-pub mod OnceSteps
+pub mod Misfits
+pub mod PartReads
+pub mod Turns
+pub mod Batching
+pub mod Agreeing
+pub mod PaymentPart
+pub mod EscrowPart
+pub mod TransferPart
+pub mod KnownDeals
+pub mod StateRows

@@ -18,8 +18,9 @@ use Rattle.ledger_acts.specs.declared.ledger_fault.LedgerFault.{LedgerFault}
 use Rattle.ledger_acts.specs.declared.ledger_fault.LedgerFault.TheVariants.{KeyReused, Store}
 use Rattle.ledger_acts.specs.LedgerFaults.{of_ledger_fault}
 use Rattle.ledger_acts.specs.LedgerStep.{kept_reply}
-use Rattle.ledger_acts.specs.Once.{ByRows, reused, by_key, number_by, batches_by, key_said, key_at, once_refusal, once_batches, IsOnceAnswer}
-use Rattle.ledger_acts.proofs.PayCalls.{store_not_done, stored, told_on}
+use Rattle.ledger_acts.specs.ByRows.{ByRows}
+use Rattle.ledger_acts.specs.Once.{reused, by_key, number_by, batches_by, key_said, key_at, once_refusal, once_batches, IsOnceAnswer}
+use Rattle.ledger_acts.proofs.Answering.{store_not_done, stored, read_cause, told_on, few_looks, looks_first}
 
 told_both : (P Q R : Tables → Type 0) (before mid after : Option Tables) → KeepsTold before mid → IfSome after (λ _. IsSome mid) → ((tables : Tables) → P tables → Q tables → R tables) →
     IfSome mid (λ _. IfSome before P) → IfSome after (λ _. IfSome mid Q) → IfSome after (λ _. IfSome before R)
@@ -28,7 +29,7 @@ told_both P Q R before None (Some later) keeps told both p q = absurd cc
 told_both P Q R None (Some middle) (Some later) keeps told both p q = tt
 told_both P Q R (Some tables) (Some middle) (Some later) keeps told both p q = both tables p (subst Q (is_told middle tables keeps) q)
 
-module _ (n : ℕ) (account : Id) (q : ℕ) (message : Id) (number : ℕ) (refusal : Tables → Option LedgerFault) (batches : Tables → List (List Change)) where
+module _ (n : ℕ) (through : Option ℕ) (account : Id) (q : ℕ) (message : Id) (number : ℕ) (refusal : Tables → Option LedgerFault) (batches : Tables → List (List Change)) where
   abbrev whole : Tables → Option LedgerFault
   whole = once_refusal account q message refusal
 
@@ -39,14 +40,15 @@ module _ (n : ℕ) (account : Id) (q : ℕ) (message : Id) (number : ℕ) (refus
   commits = commits_unless whole made
 
   abbrev Once : Result ℕ LedgerFault → Known → Known → Type 0
-  Once = ByRows (1 + n) whole made (IsOnceAnswer account q number)
+  Once = ByRows (1 + n) through whole made (IsOnceAnswer account q number)
 
   -- the row of the key is not read
   pub key_unread : (fault : StoreFault) (before after : Known) → Reads 1 (used_said account q) (used_refusal account q) LacksForm (Err fault) before after → Once (Err (Store fault)) before after
   key_unread fault before after r = record {
     leaves = reads_leave commits (of_store_fault fault) before after (store_not_done fault) r.leaves;
     reply = told_on _ _ before.tables after.tables (λ tables is. stored (of_store_fault fault) (by_key message (key_at account q tables) (refusal tables)) (used_refusal account q tables) fault is) r.reply;
-    looked = (omega (arith, r.looked.0), omega (arith, r.looked.1));
+    cause = read_cause after.tables fault r.cause;
+    looked = few_looks 1 (1 + n) through before after (omega arith) r.looked;
   }
 
   -- where the key has signed an act
@@ -73,7 +75,8 @@ module _ (n : ℕ) (account : Id) (q : ℕ) (message : Id) (number : ℕ) (refus
   kept_if used before after r true is = record {
     leaves = call_leaves commits [] done before after after r.leaves (no_more after) (told_on _ _ before.tables after.tables (λ tables ok. sym (none_chosen (whole tables) (made tables) (nothing_made used tables ok.1))) r.reply);
     reply = told_on _ _ before.tables after.tables (λ tables ok. (used_whole used tables ok.0 ok.1 ∙ ap (refusal_if used) (sym is), answer_kept used tables ok.1)) r.reply;
-    looked = (omega (arith, r.looked.0), omega (arith, r.looked.1));
+    cause = tt;
+    looked = few_looks 1 (1 + n) through before after (omega arith) r.looked;
   }
     where
       no_more : (known : Known) → Leaves [] done known known
@@ -81,7 +84,8 @@ module _ (n : ℕ) (account : Id) (q : ℕ) (message : Id) (number : ℕ) (refus
   kept_if used before after r false is = record {
     leaves = reads_leave commits refused before after (λ e. absurd cc) (read_and refused before after (λ e. absurd cc) r.leaves);
     reply = told_on _ _ before.tables after.tables (λ tables ok. used_whole used tables ok.0 ok.1 ∙ ap (refusal_if used) (sym is)) r.reply;
-    looked = (omega (arith, r.looked.0), omega (arith, r.looked.1));
+    cause = tt;
+    looked = few_looks 1 (1 + n) through before after (omega arith) r.looked;
   }
 
   pub key_kept : (used : UsedKey) (before after : Known) → Reads 1 (used_said account q) (used_refusal account q) LacksForm (Ok (Some used)) before after → Once (kept_reply used message) before after
@@ -103,18 +107,20 @@ module _ (n : ℕ) (account : Id) (q : ℕ) (message : Id) (number : ℕ) (refus
       leaves = then_any l.batches how before mid after r.leaves l.leaves;
     }
 
-    pub new_refused : (fault : LedgerFault) → ByRows {A = Unit {0}} n refusal batches (λ tables done. Unit {0}) (Err fault) mid after → Once (Err fault) before after
+    pub new_refused : (fault : LedgerFault) → ByRows {A = Unit {0}} n through refusal batches (λ tables done. Unit {0}) (Err fault) mid after → Once (Err fault) before after
     new_refused fault b = record {
       leaves = leaves_then (of_ledger_fault fault) b.leaves;
       reply = told_both _ _ _ before.tables mid.tables after.tables (look_keeps before mid r.leaves) (was_told b.leaves.batches (of_ledger_fault fault) mid after b.leaves.leaves)
           (λ tables ok is. subst (λ (o : Option LedgerFault). IsRefusal (of_ledger_fault fault) o fault) (sym (new_whole tables ok.0 ok.1)) is) r.reply b.reply;
-      looked = (omega (arith, r.looked.0, b.looked.0), omega (arith, r.looked.1, b.looked.1));
+      cause = b.cause;
+      looked = looks_first 1 n through before mid after (look_keeps before mid r.leaves) (was_told b.leaves.batches (of_ledger_fault fault) mid after b.leaves.leaves) r.looked b.looked;
     }
 
-    pub new_done : (u : Unit {0}) → ByRows n refusal batches (λ tables done. Unit {0}) (Ok u) mid after → Once (Ok number) before after
+    pub new_done : (u : Unit {0}) → ByRows n through refusal batches (λ tables done. Unit {0}) (Ok u) mid after → Once (Ok number) before after
     new_done u b = record {
       leaves = leaves_then done b.leaves;
       reply = told_both _ _ _ before.tables mid.tables after.tables (look_keeps before mid r.leaves) (was_told b.leaves.batches done mid after b.leaves.leaves)
           (λ tables ok is. (new_whole tables ok.0 ok.1 ∙ is.0, sym (ap (λ (o : Option (Option UsedKey)). number_by (key_said o) number) ok.1))) r.reply b.reply;
-      looked = (omega (arith, r.looked.0, b.looked.0), omega (arith, r.looked.1, b.looked.1));
+      cause = tt;
+      looked = looks_first 1 n through before mid after (look_keeps before mid r.leaves) (was_told b.leaves.batches done mid after b.leaves.leaves) r.looked b.looked;
     }

@@ -1,5 +1,6 @@
 pub mod LedgerFaults
 pub mod LedgerStep
 pub mod LedgerState
+pub mod ByRows
 pub mod Once
-pub mod Paying
+pub mod Movements

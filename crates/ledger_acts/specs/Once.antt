@@ -1,29 +1,15 @@
 -- An act under a key: it acts once, and is answered by what is kept from then on.
-use Rattle.std.specs.Prelude.{ℕ, ◌≡◌, if◌then◌else◌, List, [], ◌∷◌, ◌++◌, Option, Some, None, Result}
+use Rattle.std.specs.Prelude.{ℕ, ◌≡◌, if◌then◌else◌, List, [], ◌∷◌, ◌++◌, Option, Some, None}
 use Rattle.std.specs.Option.{option_map, option_or}
 use Rattle.dh_base.specs.declared.id.Id.{Id}
 use Rattle.dh_base.specs.Ids.{same_id}
 use Rattle.keeper_core.specs.declared.change.Change.{Change}
 use Rattle.keeper_core.specs.Tables.{Tables}
-use Rattle.keeper_core.specs.Knowing.{Known, LooksAtMost}
-use Rattle.keeper_core.specs.Leaving.{ended}
-use Rattle.keeper_core.specs.Stepping.{WhereTold, LeavesBy, IsReply, commits_unless}
 use Rattle.ledger_rows.specs.declared.entry.Entry.{Entry}
 use Rattle.ledger_rows.specs.declared.used_key.UsedKey.{UsedKey}
 use Rattle.ledger_rows.specs.RowReading.{used_said, used_refusal}
 use Rattle.ledger_acts.specs.declared.ledger_fault.LedgerFault.{LedgerFault}
 use Rattle.ledger_acts.specs.declared.ledger_fault.LedgerFault.TheVariants.{KeyReused, Store}
-use Rattle.ledger_acts.specs.LedgerFaults.{of_ledger_fault}
-
--- A call is answered by the rows, and commits the batches where it is accepted. It looks so many
--- rows up at most.
-pub record ByRows {A : Type 0} (rows : ℕ) (refusal : Tables → Option LedgerFault)
-    (batches : Tables → List (List Change)) (IsAnswer : Tables → A → Type 0)
-    (result : Result A LedgerFault) (before after : Known) : Type 0 where
-  pub leaves : LeavesBy (commits_unless refusal batches) (ended of_ledger_fault result) before after
-  pub reply : WhereTold before after (λ tables.
-      IsReply of_ledger_fault (refusal tables) (IsAnswer tables) result)
-  pub looked : LooksAtMost rows before after
 
 -- ---- by what a key has signed
 

@@ -2,14 +2,16 @@
 //! rows that it touches.
 //!
 //! - `ledger_fault`: the refusals
-//! - `payment`, `paying`: payments
+//! - `signed`: signed messages, and where the next entry stands
+//! - `movement`, `part_rows`, `moving`: payments, escrows and transfers
 #![tactic(auto)]
 
 pub mod ledger_fault;
-mod paying;
-mod payment;
+mod movement;
+mod moving;
+mod part_rows;
+mod signed;
 
 pub use ledger_fault::LedgerFault;
-
-#[cfg(test)]
-mod tests;
+pub use movement::Movement;
+pub use signed::{Place, Signed};

@@ -87,7 +87,7 @@ moves_spelled val moves are e =
     let below : n < 2 ^ 32 = number_below w32 wide32 0 val are in
     ((subst (λ (k : ℕ). 0 < k) count some, subst (λ (k : ℕ). k < 2 ^ 32) count below), sym back ∙ ap (to_be_bytes w32) count)
 
-spelled_moves : (moves : MoveCount) → MovesFit moves → moves_in (moves_text moves) ≡ Some moves
+pub spelled_moves : (moves : MoveCount) → MovesFit moves → moves_in (moves_text moves) ≡ Some moves
 unfolding moves_if
 spelled_moves moves fits =
     let n : ℕ = moves.count in
@@ -125,7 +125,7 @@ hold_spelled val hold are e =
     let below_n : n < 2 ^ 64 = number_below w64 wide64 8 val are in
     ((omega (arith, some, commit, abort), omega (arith, below_m, commit), omega (arith, below_n, abort)), whole ∙ (λ i. to_be_bytes w64 (commit i) ++ to_be_bytes w64 (abort i)))
 
-spelled_hold : (hold : Hold) → HoldFits hold → hold_in (hold_text hold) ≡ Some hold
+pub spelled_hold : (hold : Hold) → HoldFits hold → hold_in (hold_text hold) ≡ Some hold
 unfolding hold_if
 spelled_hold hold fits =
     let m : ℕ = hold.commit in

@@ -1,5 +1,5 @@
 -- The history of a ledger: entries over opening rows, and the book that they make.
-use Rattle.std.specs.Prelude.{ℕ, ◌+◌, ◌==◌, ◌&&◌, if◌then◌else◌, List, [], ◌∷◌, map, Option, Some, None, Result, Ok, Err}
+use Rattle.std.specs.Prelude.{ℕ, ◌+◌, ◌==◌, ◌&&◌, if◌then◌else◌, List, [], ◌∷◌, Option, Some, None, Result, Ok, Err}
 use Rattle.std.specs.Option.{option_or}
 use Rattle.sha2.specs.Sha256.{sha256}
 use Rattle.dh_base.specs.declared.id.Id.{Id}
@@ -9,9 +9,7 @@ use Rattle.act_text.specs.declared.act.Act.TheVariants.{Register, Pay, Escrow, T
 use Rattle.act_text.specs.declared.act_fault.ActFault.{ActFault}
 use Rattle.act_text.specs.declared.office.Office.TheVariants.{Ledger}
 use Rattle.act_text.specs.ActReading.{act_of}
-use Rattle.deal_core.specs.declared.deal_fault.DealFault.{DealFault}
-use Rattle.deal_core.specs.declared.party.Party.{Party}
-use Rattle.deal_core.specs.Drafts.{Draft, reading_of}
+pub use Rattle.deal_core.specs.Drafts.{parties_in}
 use Rattle.escrow_book.specs.declared.change.Change.TheVariants.{Escrowed, Transferred, Paid, Settled}
 use Rattle.escrow_book.specs.Opening.{Row}
 use Rattle.escrow_book.specs.History.{History, with_change}
@@ -25,14 +23,6 @@ abbrev pub digest_of : List ℕ → Id
 digest_of text = record { 0 = sha256 text }
 
 -- ---- the book
-
-abbrev pub accounts_in : Result Draft DealFault → List Id
-accounts_in (Ok draft) = map (λ (party : Party). party.account) draft.parties
-accounts_in (Err fault) = []
-
--- the accounts of the parties of a deal, by its text
-abbrev pub parties_in : List ℕ → List Id
-parties_in text = accounts_in (reading_of text)
 
 -- The book after an act of the account. A deal that is registered stays as it is.
 abbrev pub with_act : History → Id → Act → History
