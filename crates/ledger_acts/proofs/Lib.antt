@@ -11,3 +11,6 @@ pub mod EscrowPart
 pub mod TransferPart
 pub mod KnownDeals
 pub mod StateRows
+pub mod DealParties
+pub mod RegisterCalls
+pub mod RegisterSteps

@@ -5,6 +5,8 @@ use Rattle.dh_base.specs.declared.refusal.FieldValue.TheVariants.{Number, Hash, 
 use Rattle.key_ring.specs.EnvFaults.{env_fault_told}
 use Rattle.act_text.specs.ActFaults.{act_fault_told}
 use Rattle.deal_core.specs.DealFaults.{deal_fault_told}
+use Rattle.deal_core.specs.declared.deal_fault.DealFault.{DealFault}
+use Rattle.deal_core.specs.declared.deal_fault.DealFault.TheVariants as deal
 use Rattle.escrow_book.specs.declared.fault.BookFault.{BookFault}
 use Rattle.escrow_book.specs.declared.fault.BookFault.TheVariants as book
 use Rattle.keeper_core.specs.declared.store_fault.StoreFault.TheVariants.{NoMemory}
@@ -54,3 +56,8 @@ ledger_fault_of (book.WrongTurn expected) = WrongTurn expected
 ledger_fault_of book.ZeroOrSelf = ZeroOrSelf
 ledger_fault_of (book.Short held) = Short held
 ledger_fault_of book.NoMemory = Store NoMemory
+
+-- Want of memory at a deal's text is the ledger's own; any other fault says that it is no deal's.
+abbrev pub ledger_fault_of_deal : DealFault → LedgerFault
+ledger_fault_of_deal deal.NoMemory = Store NoMemory
+ledger_fault_of_deal fault = BadDeal fault

@@ -28,8 +28,8 @@ use Rattle.ledger_rows.specs.declared.used_key.UsedKey.{UsedKey}
 use Rattle.ledger_rows.specs.Entries.{digest_of, used_of, book_of}
 use Rattle.ledger_rows.specs.OpenDeals.{open_deals}
 use Rattle.ledger_acts.specs.declared.ledger_fault.LedgerFault.{LedgerFault}
-use Rattle.ledger_acts.specs.declared.ledger_fault.LedgerFault.TheVariants.{BadEnvelope, BadAct, KeyReused, WrongLedger, BadDeal, WrongHouse, NotAParty, DealsFull, LedgerFull}
-use Rattle.ledger_acts.specs.LedgerFaults.{ledger_fault_of}
+use Rattle.ledger_acts.specs.declared.ledger_fault.LedgerFault.TheVariants.{BadEnvelope, BadAct, KeyReused, WrongLedger, WrongHouse, NotAParty, DealsFull, LedgerFull}
+use Rattle.ledger_acts.specs.LedgerFaults.{ledger_fault_of, ledger_fault_of_deal}
 
 -- Which ledger it is: its name, the id of its house, its opening rows, and the identity that its
 -- opening has.
@@ -81,13 +81,18 @@ not_its_party deal account =
 abbrev pub deals_full : ℕ → Option LedgerFault
 deals_full held = if nat_le most_deals held then Some (DealsFull held) else None
 
+-- Why the account can't register in the house what a text reads as.
+abbrev pub text_refusal : Id → Id → Result DealTold DealFault → Option LedgerFault
+text_refusal house account (Err fault) = Some (ledger_fault_of_deal fault)
+text_refusal house account (Ok deal) =
+    first_of (wrong_house house deal.house ∷ not_its_party deal account ∷ [])
+
 -- A deal that is registered here already fills nothing.
-abbrev pub register_refusal : Opened → List Entry → Id → Result DealTold DealFault
+abbrev pub register_refusal : Opened → List Entry → Id → List ℕ → Result DealTold DealFault
     → Option LedgerFault
-register_refusal opened entries account (Err fault) = Some (BadDeal fault)
-register_refusal opened entries account (Ok deal) =
-    first_of (wrong_house opened.house deal.house ∷ not_its_party deal account
-    ∷ (if is_known (book_of opened.rows entries) deal.id then None
+register_refusal opened entries account text answer =
+    first_of (text_refusal opened.house account answer
+    ∷ (if is_known (book_of opened.rows entries) (digest_of text) then None
     else deals_full (open_deals opened.rows entries account)) ∷ full (acts_of entries) ∷ [])
 
 -- what the text reads as, where memory is left
@@ -118,7 +123,7 @@ move_refusal opened entries account act = None
 abbrev pub IsActRefusal : Opened → List Entry → Id → Act → Option LedgerFault → Type 0
 IsActRefusal opened entries account (Register text) refusal =
     (answer : Result DealTold DealFault) × ReadsAs text answer
-    × (refusal ≡ register_refusal opened entries account answer)
+    × (refusal ≡ register_refusal opened entries account text answer)
 IsActRefusal opened entries account act refusal =
     refusal ≡ move_refusal opened entries account act
 

@@ -4,3 +4,4 @@ pub mod LedgerState
 pub mod ByRows
 pub mod Once
 pub mod Movements
+pub mod Registering

@@ -79,6 +79,20 @@ impl From<NoMemory> for LedgerFault {
     }
 }
 
+impl From<DealFault> for LedgerFault {
+    ghost use Rattle.std.specs.Prelude.{◌≡◌};
+    ghost use Rattle.ledger_acts.specs.LedgerFaults.{ledger_fault_of_deal};
+
+    ghost from_gives = { λ fault given. given ≡ ledger_fault_of_deal fault };
+
+    fn from(fault: DealFault) -> LedgerFault {
+        match fault {
+            DealFault::NoMemory => LedgerFault::from(NoMemory),
+            fault => LedgerFault::BadDeal { fault },
+        }
+    }
+}
+
 impl From<BookFault> for LedgerFault {
     ghost use Rattle.std.specs.Prelude.{◌≡◌};
     ghost use Rattle.ledger_acts.specs.LedgerFaults.{ledger_fault_of};
