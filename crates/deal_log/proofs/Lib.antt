@@ -1,3 +1,4 @@
 pub mod ReadTexts
 pub mod Posted
 pub mod Kept
+pub mod Rebuilt

@@ -75,6 +75,7 @@ impl DealText {
         ensures value { result ≡ length (parties_in self.now) }
         ensures several { 2 ≤ result }
         ensures few { result ≤ most_parties }
+        ensures kept { IsDealText self.now }
     {
         self.deal.parties().len() as u16
     }

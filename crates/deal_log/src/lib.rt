@@ -6,6 +6,7 @@
 //! - `posting`: what an envelope asks of a log.
 //! - `admit_fault`: the refusals.
 //! - `log`: the log.
+//! - `rebuilding`, `rebuild_fault`: making a log again, and why that is refused.
 #![tactic(auto)]
 
 pub mod admit_fault;
@@ -13,8 +14,11 @@ pub mod deal_text;
 pub mod deal_texts;
 pub mod log;
 pub mod posting;
+pub mod rebuild_fault;
+mod rebuilding;
 
 pub use admit_fault::AdmitFault;
 pub use deal_text::DealText;
 pub use log::{MOST_RECORDS, VoteLog};
 pub use posting::{Posting, read_posting};
+pub use rebuild_fault::RebuildFault;

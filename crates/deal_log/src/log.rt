@@ -1,6 +1,6 @@
 //! The log of a house.
 
-ghost use Rattle.std.specs.Prelude.{◌≡◌, ◌<◌, ◌^◌, ◌++◌, ◌∷◌, [], IfOk, IfErr, IfNone, OnOk, OnErr, None, Some, length};
+ghost use Rattle.std.specs.Prelude.{◌≡◌, ◌<◌, ◌^◌, ◌++◌, ◌∷◌, [], IfOk, IfErr, IfNone, OnOk, OnErr, MatchResult, None, Some, length};
 ghost use Rattle.std.specs.Option.{option_copied, option_or};
 ghost use Rattle.std.specs.FinMap as finite;
 ghost use Rattle.dh_base.specs.Limits.{most_parties};
@@ -9,13 +9,16 @@ ghost use Rattle.vote_log.specs.Admission.{votable_of};
 ghost use Rattle.vote_log.specs.Deciding.{outcome_of};
 ghost use Rattle.deal_log.specs.DealTexts.{house_in, id_in, parties_in, text_of};
 ghost use Rattle.deal_log.specs.Postings.{start_entry, vote_entry};
+ghost use Rattle.deal_log.specs.Rebuilding.{IsRebuilt, IsRebuildFault};
 ghost use Rattle.deal_log.specs.VoteLogs.{VoteLogTold, HasTexts, IsVoteLog, IsRefusal, IsAdmitFault, IsAsked, IsWithPosting, IsUndoable, Admits, house_refusal, party_refusal, stranger, is_party_at, vote_refusal, ask_refusal, record_refusal, refusal_of};
 
 use crate::admit_fault::AdmitFault;
 use crate::deal_text::DealText;
 use crate::deal_texts::DealTexts;
 use crate::posting::{Posting, read_posting};
-use dh_base::{Id, Outcome};
+use crate::rebuild_fault::RebuildFault;
+use crate::rebuilding::{first_unkept, records_of, texts_of};
+use dh_base::{Id, List, Outcome};
 use key_ring::Envelope;
 use std::alloc::Global;
 use std::marker::Model;
@@ -82,6 +85,34 @@ impl VoteLog {
             records: Records::new(alloc, MOST_RECORDS),
             texts: DealTexts::new(alloc),
         }
+    }
+
+    /// The log of the house again, from its records and texts of its deals. It keeps those of the
+    /// texts that are for deals that it starts.
+    pub fn rebuild(
+        alloc: Global,
+        house: &Id,
+        recs: &[LogRecord],
+        texts: &[List<u8>],
+    ) -> Result<VoteLog, RebuildFault>
+        requires { length recs.now < 2 ^ 32 }
+        ensures { MatchResult result (IsRebuilt house.now recs.now texts.now)
+            (IsRebuildFault house.now recs.now texts.now) }
+    {
+        let records = match records_of(alloc, recs) {
+            Ok(records) => records,
+            Err(fault) => return Err(fault),
+        };
+        let kept = texts_of(alloc, house, &records, texts)?;
+        if let Some(at) = first_unkept(&records, &kept, recs) {
+            return Err(RebuildFault::TextMissing { at });
+        }
+        Ok(VoteLog {
+            alloc,
+            house: *house,
+            records,
+            texts: kept,
+        })
     }
 
     /// The records.

@@ -71,6 +71,10 @@ start_found deal place (x ∷ log) start e = go (is_start deal x) refl e (λ h. 
             true≢false (sym yes' ∙ is)
         before f (suc earlier) other less h = f earlier other (omega arith) h
 
+-- where a deal's first start stands
+pub start_held : (log : List Entry) (deal : Id) (start : Started) → first_start log deal ≡ Some start → (place : ℕ) × HoldsAt log place Start start.parties deal
+start_held log deal start e = let h = start_found deal 0 log start e in (h.index, h.here)
+
 start_nowhere : (deal : Id) (place : ℕ) (log : List Entry) → first_start_from deal place log ≡ None → (p other : ℕ) → HoldsAt log p Start other deal → ⊥
 start_nowhere deal place [] e p other h = absurd cc
 start_nowhere deal place (x ∷ log) e p other h = go (is_start deal x) refl e p h (λ n q g. start_nowhere deal (place + 1) log n q other g)

@@ -179,6 +179,9 @@ log_from_push limit front [] entry h e = (subst (λ (l : List Entry). add_refusa
 log_from_push limit front (x ∷ rest) entry h e =
     (h.0, log_from_push limit (front ++ x ∷ []) rest entry h.1 (subst (λ (l : List Entry). add_refusal l limit entry ≡ None) (sym (append_assoc front (x ∷ []) rest)) e))
 
+pub log_push : (limit : ℕ) (log : List Entry) (entry : Entry) → IsLog log limit → add_refusal log limit entry ≡ None → IsLog (log ++ entry ∷ []) limit
+log_push limit log entry h e = log_from_push limit [] log entry h e
+
 -- the log after a record that it takes
 pub kept_push : (log : List Entry) (limit owed after : ℕ) (entry : Entry) → IsKept log limit owed → add_refusal log limit entry ≡ None
     → after + owed_by log entry.deal ≡ owed + owed_by (log ++ entry ∷ []) entry.deal → IsKept (log ++ entry ∷ []) limit after
