@@ -1,4 +1,5 @@
 pub mod Accounts
+pub mod QuorumsFound
 pub mod SeatSigs
 pub mod SeatTexts
 pub mod SetTexts

@@ -25,7 +25,7 @@ use Rattle.cert_core.specs.Sets.{SetTold, HasSeats}
 use Rattle.cert_core.specs.Quorums.{account_of, seats_of, quorum_size, SaysAs, Vouches, IsQuorum, has_seat, said_fault, sig_fault, first_fault}
 
 -- none of them has a fault, and none of the later ones
-parts : (one other : Option QuorumFault) → option_or one other ≡ None → (one ≡ None) × (other ≡ None)
+pub parts : (one other : Option QuorumFault) → option_or one other ≡ None → (one ≡ None) × (other ≡ None)
 parts None other e = (refl, e)
 parts (Some fault) other e = absurd cc
 

@@ -5,6 +5,7 @@ use Rattle.std.specs.List.{list_any, AllByRecursion, IsDistinct}
 use Rattle.std.specs.Option.{option_or}
 use Rattle.std.specs.Str.{bytes_eq}
 use Rattle.dh_base.specs.declared.id.Id.{Id}
+use Rattle.dh_base.specs.Fields.{AreBytes}
 use Rattle.dh_base.specs.Ids.{same_id}
 use Rattle.key_ring.specs.declared.envelope.Envelope.{Envelope}
 use Rattle.key_ring.specs.declared.env_fault.EnvFault.{EnvFault}
@@ -41,6 +42,10 @@ pub record IsQuorum (set : SetTold) (text : List ℕ) (sigs : List SeatSig) : Ty
   pub different : IsDistinct eqb (seats_of sigs)
   pub inside : AllByRecursion (λ (seat : ℕ). seat < length set.seats) (seats_of sigs)
   pub vouched : AllByRecursion (Vouches set.seats text) sigs
+
+-- The text of each envelope's ring is of bytes, as that of any envelope that a program holds.
+abbrev pub HaveByteRings : List SeatSig → Type 0
+HaveByteRings sigs = AllByRecursion (λ (sig : SeatSig). AreBytes sig.env.ring) sigs
 
 -- ---- the first broken part
 

@@ -5,7 +5,7 @@ ghost use Rattle.dh_base.specs.Fields.{AreBytes};
 ghost use Rattle.cert_core.specs.Sets.{SetTold, IsSet, HasSeats, set_text};
 ghost use Rattle.cert_core.specs.SetReading.{set_of};
 ghost use Rattle.cert_core.specs.SeatTexts.{SeatText, HasWidths, seat_text};
-ghost use Rattle.cert_core.specs.Quorums.{IsQuorum};
+ghost use Rattle.cert_core.specs.Quorums.{IsQuorum, HaveByteRings, quorum_of};
 ghost use Rattle.cert_core.specs.SharedSeats.{FewDeviate, SharedSeat, count_seats, signs_both};
 ghost use Rattle.cert_core.specs.declared.seat_sig.SeatSig.{SeatSig};
 
@@ -19,6 +19,14 @@ pub fn sets_read()
 pub fn seat_texts_differ()
     ensures { (one other : SeatText) → HasWidths one → HasWidths other →
         seat_text one ≡ seat_text other → one ≡ other }
+{}
+
+/// Signatures have no broken part exactly where they are a quorum, and then each of them counts.
+pub fn quorums_found()
+    ensures { (set : SetTold) (text : List ℕ) (sigs : List SeatSig) (counted : ℕ) →
+        HaveByteRings sigs →
+        (quorum_of set text sigs ≡ Ok counted)
+        ↔ (IsQuorum set text sigs × (counted ≡ length sigs)) }
 {}
 
 /// Two quorums of one set share at least f + 1 seats, and so one that complies, where at most f
