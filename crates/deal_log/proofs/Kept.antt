@@ -165,7 +165,7 @@ pub record IsUndone (before now : VoteLogTold) (rest : List Entry) (last : Entry
   pub start : last.kind ≡ kind.Start → remove now.texts last.deal.0 ≡ before.texts
   pub vote : last.kind ≢ kind.Start → now.texts ≡ before.texts
 
-vote_kind_is : (choice : Outcome) (index : ℕ) (deal : Id) → (vote_entry choice index deal).kind ≢ kind.Start
+pub vote_kind_is : (choice : Outcome) (index : ℕ) (deal : Id) → (vote_entry choice index deal).kind ≢ kind.Start
 vote_kind_is Commit index deal e = cc
 vote_kind_is Abort index deal e = cc
 

@@ -1,5 +1,5 @@
 -- What an envelope asks of a log, or why it asks nothing.
-use Rattle.std.specs.Prelude.{ℕ, ◌≡◌, ◌≢◌, ◌++◌, nat_lt, if◌then◌else◌, List, length, Option, Some, None, Result, Ok, Err}
+use Rattle.std.specs.Prelude.{ℕ, ◌≡◌, ◌≢◌, ◌++◌, nat_lt, if◌then◌else◌, List, length, Option, Some, None, Result, Ok, Err, MatchResult, ◌⊎◌}
 use Rattle.dh_base.specs.declared.id.Id.{Id}
 use Rattle.dh_base.specs.declared.outcome.Outcome.{Outcome}
 use Rattle.dh_base.specs.Limits.{most_parties}
@@ -45,6 +45,15 @@ IsPostFault env (BadDeal fault) =
     × IsFaultOf text fault × (fault ≢ deal_fault.NoMemory)
 IsPostFault env (WrongHouse named) = ⊥
 IsPostFault env (Refused fault) = fault ≡ NoMemory
+
+-- what reading the envelope may answer
+abbrev pub IsPosted : Envelope → Result Posting AdmitFault → Type 0
+IsPosted env result = MatchResult result (Posts env) (IsPostFault env)
+
+-- the two are one, or memory ran out at one of them
+abbrev pub AreOneReading : Result Posting AdmitFault → Result Posting AdmitFault → Type 0
+AreOneReading one other =
+    (one ≡ other) ⊎ ((one ≡ Err (Refused NoMemory)) ⊎ (other ≡ Err (Refused NoMemory)))
 
 -- why the message is no act of a log; memory may run out
 abbrev pub IsActFault : List ℕ → AdmitFault → Type 0

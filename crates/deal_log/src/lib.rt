@@ -7,11 +7,13 @@
 //! - `admit_fault`: the refusals.
 //! - `log`: the log.
 //! - `rebuilding`, `rebuild_fault`: making a log again, and why that is refused.
+//! - `laws`: laws of what logs take.
 #![tactic(auto)]
 
 pub mod admit_fault;
 pub mod deal_text;
 pub mod deal_texts;
+pub mod laws;
 pub mod log;
 pub mod posting;
 pub mod rebuild_fault;

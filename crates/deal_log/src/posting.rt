@@ -5,7 +5,7 @@ ghost use Rattle.act_text.specs.ActReading.{act_of};
 ghost use Rattle.act_text.specs.ActTexts.{kind_of, office_of};
 ghost use Rattle.act_text.specs.declared.office.Office.TheVariants.{Log};
 ghost use Rattle.deal_log.specs.DealTexts.{IsDealText};
-ghost use Rattle.deal_log.specs.Postings.{Posts, IsActFault, IsTextFault, IsPostFault, entry_of};
+ghost use Rattle.deal_log.specs.Postings.{IsActFault, IsPosted, IsTextFault, entry_of};
 ghost use Rattle.deal_log.specs.declared.posting.Posting.TheVariants.{Start};
 
 use crate::admit_fault::AdmitFault;
@@ -81,7 +81,7 @@ fn start_posting(alloc: Global, account: Id, text: List<u8>) -> Result<Posting, 
 /// What the envelope asks of a log, or why it asks nothing.
 pub fn read_posting(alloc: Global, env: &Envelope) -> Result<Posting, AdmitFault>
     requires { length env.now.message < 2 ^ 32 }
-    ensures { MatchResult result (Posts env.now) (IsPostFault env.now) }
+    ensures { IsPosted env.now result }
 {
     let account = match check(env) {
         Ok(said) => said.account,
