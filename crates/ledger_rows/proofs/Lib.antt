@@ -15,3 +15,6 @@ pub mod RegistrationsStand
 pub mod DealRows
 pub mod OpenCounted
 pub mod RoomReads
+pub mod HeldRows
+pub mod RowForms
+pub mod ScanReads

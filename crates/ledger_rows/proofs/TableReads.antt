@@ -1,5 +1,5 @@
 -- What reading all rows of a table answers and leaves.
-use Rattle.std.proofs.Common.{◌≡◌, ℕ, ◌+◌, ◌≤◌, Bool, true, false, if◌then◌else◌, List, [], ◌∷◌, length, Option, Some, None, is_some, IfSome, Result, Ok, Err, MatchResult, refl, sym, ap, subst, ◌∙◌}
+use Rattle.std.proofs.Common.{◌≡◌, ℕ, ◌+◌, ◌≤◌, ◌&&◌, Bool, true, false, if◌then◌else◌, List, [], ◌∷◌, length, Option, Some, None, is_some, IfSome, Result, Ok, Err, MatchResult, refl, sym, ap, subst, ◌∙◌}
 use Rattle.std.specs.List.{Contains}
 use Rattle.std.specs.Option.{option_map}
 use Rattle.std.specs.FinMap.{get}
@@ -14,7 +14,10 @@ use Rattle.keeper_core.specs.Tables.{Tables, rows_of}
 use Rattle.keeper_core.proofs.Leaving.{if_some, read_and}
 use Rattle.keeper_core.proofs.OneListing.{here, later_on}
 use Rattle.keeper_core.proofs.Scanned.{scans_list_the_map}
-use Rattle.ledger_rows.specs.RowReading.{first_formless, forms_refusal, LooksThrough, ReadsTable}
+use Rattle.ledger_rows.specs.declared.registration.Registration.{Registration}
+use Rattle.ledger_rows.specs.RowKeys.{deal_tab}
+use Rattle.ledger_rows.specs.RowReading.{first_formless, forms_refusal, LooksThrough, ReadsTable, has_key_form, LacksForm}
+use Rattle.ledger_rows.specs.RowValues.{registration_in}
 use Rattle.ledger_rows.proofs.RowReads.{where_told, look_keeps}
 
 -- the row that is found stands in the list, and stands for nothing
@@ -68,3 +71,7 @@ module _ {A V : Type 0} (value_of : List ℕ → Option V) (tab : ℕ) (said : L
   table_answers (Err fault) says =
       let row = named tab (first_formless value_of rows) fault says in
       subst (λ (f : StoreFault). Answers (Err f) before after) row.2 (table_refused row.0 row.1)
+
+-- a row of a deal whose bytes stand for nothing lacks its form
+pub unread_deal : (row : Row) → registration_in row.val ≡ None → LacksForm deal_tab row
+unread_deal row none = ap (λ (o : Option Registration). is_some o && has_key_form deal_tab row.key) none

@@ -6,3 +6,5 @@ pub mod Entries
 pub mod LedgerTables
 pub mod OpenDeals
 pub mod ActChanges
+pub mod Asking
+pub mod Scanning

@@ -1,5 +1,5 @@
 -- The tables of a ledger, and the keys of their rows: how each is spelled, and what is read of it.
-use Rattle.std.specs.Prelude.{ℕ, ◌≡◌, ◌↔◌, ◌<◌, ◌≤◌, ◌^◌, Bool, ◌&&◌, List, ◌++◌, length, take, drop, IsTrue}
+use Rattle.std.specs.Prelude.{ℕ, ◌≡◌, ◌↔◌, ◌<◌, ◌≤◌, ◌^◌, ◌==◌, Bool, ◌&&◌, if◌then◌else◌, List, [], ◌∷◌, ◌++◌, length, take, drop, Option, Some, None, IsTrue}
 use Rattle.std.specs.Int.{w32, w64, to_be_bytes, from_be_bytes}
 use Rattle.std.specs.Str.{bytes_eq}
 use Rattle.dh_base.specs.declared.id.Id.{Id}
@@ -62,6 +62,11 @@ behind_id key = drop 32 key
 -- the asset behind an account
 abbrev pub asset_in : List ℕ → List ℕ
 asset_in key = drop 33 key
+
+-- the name that the bytes are, behind the number of its characters
+abbrev pub name_in : List ℕ → Option (List ℕ)
+name_in [] = None
+name_in (len ∷ text) = if (len == length text) && is_name text then Some text else None
 
 -- It spells an account and an asset.
 abbrev pub is_free_key : List ℕ → Bool

@@ -1,5 +1,5 @@
 -- What a call that reads rows of a keeper answers, and what it leaves.
-use Rattle.std.specs.Prelude.{ℕ, ◌≡◌, ◌+◌, ◌≤◌, ◌==◌, Bool, true, false, if◌then◌else◌, List, [], ◌∷◌, length, Option, Some, None, is_some, IfErr, Result}
+use Rattle.std.specs.Prelude.{ℕ, ◌≡◌, ◌+◌, ◌≤◌, ◌==◌, ◌&&◌, Bool, true, false, if◌then◌else◌, List, [], ◌∷◌, length, Option, Some, None, is_some, IfErr, Result}
 use Rattle.std.specs.Option.{option_map, option_or}
 use Rattle.std.specs.FinMap.{get}
 use Rattle.keeper_core.specs.declared.row.Row.{Row}
@@ -15,7 +15,7 @@ use Rattle.ledger_rows.specs.declared.hold.Hold.{Hold}
 use Rattle.ledger_rows.specs.declared.move_count.MoveCount.{MoveCount}
 use Rattle.ledger_rows.specs.declared.registration.Registration.{Registration}
 use Rattle.ledger_rows.specs.declared.used_key.UsedKey.{UsedKey}
-use Rattle.ledger_rows.specs.RowKeys.{free_tab, deal_tab, hold_tab, moves_tab, used_tab, entry_tab, free_key, deal_key, hold_key, moves_key, used_key}
+use Rattle.ledger_rows.specs.RowKeys.{free_tab, deal_tab, hold_tab, moves_tab, used_tab, entry_tab, free_key, deal_key, hold_key, moves_key, used_key, is_free_key, is_hold_key}
 use Rattle.ledger_rows.specs.RowValues.{free_in, registration_in, hold_in, moves_in, used_in, entry_in}
 
 -- what stands at a key, where it has its form: no row, or what its bytes stand for
@@ -116,8 +116,16 @@ has_form tab val =
     else if tab == used_tab then is_some (used_in val)
     else if tab == entry_tab then is_some (entry_in val) else true
 
+-- the key has the form of the keys of that table
+abbrev pub has_key_form : ℕ → List ℕ → Bool
+has_key_form tab key =
+    if tab == free_tab then is_free_key key else if tab == hold_tab then is_hold_key key else true
+
+abbrev pub is_formed : ℕ → Row → Bool
+is_formed tab row = has_form tab row.val && has_key_form tab row.key
+
 abbrev pub LacksForm : ℕ → Row → Type 0
-LacksForm tab row = has_form tab row.val ≡ false
+LacksForm tab row = is_formed tab row ≡ false
 
 -- what an account can spend, by its row
 abbrev pub amount_said : Option FreeAmount → ℕ

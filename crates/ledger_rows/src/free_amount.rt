@@ -15,7 +15,7 @@ impl FreeAmount {
     ghost use Rattle.std.specs.Prelude.{◌≡◌};
     ghost use Rattle.ledger_rows.specs.RowValues.{free_in};
 
-    fn in_bytes(bytes: &[u8]) -> Option<FreeAmount>
+    pub(crate) fn in_bytes(bytes: &[u8]) -> Option<FreeAmount>
         ensures { result ≡ free_in bytes.now }
     {
         if bytes.len() != 8 {

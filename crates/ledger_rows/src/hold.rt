@@ -24,7 +24,7 @@ impl Hold {
         self.commit == 0 && self.abort == 0
     }
 
-    fn in_bytes(bytes: &[u8]) -> Option<Hold>
+    pub(crate) fn in_bytes(bytes: &[u8]) -> Option<Hold>
         ensures { result ≡ hold_in bytes.now }
     {
         if bytes.len() != 16 {

@@ -18,6 +18,18 @@ impl Registration {
     ghost use Rattle.std.specs.Option.{option_map};
     ghost use Rattle.ledger_rows.specs.OpenDeals.{is_open_by};
     ghost use Rattle.ledger_rows.specs.RowValues.{registration_in};
+    ghost use Rattle.ledger_rows.specs.Scanning.{is_settled};
+
+    /// Whether bytes, if they have the form, are a deal that has ended.
+    pub(crate) fn is_settled_in(bytes: &[u8]) -> Option<bool>
+        ensures { result ≡ option_map is_settled (registration_in bytes.now) }
+    {
+        if bytes.len() < 33 {
+            return None;
+        }
+        let settled = settled_in(bytes[32])?;
+        Some(settled.is_some())
+    }
 
     /// Whether bytes, if they have the form, are a deal that the account has registered and that
     /// is not settled.

@@ -1,11 +1,10 @@
-use Rattle.std.proofs.Common.{◌≡◌, List, Option, Some, None, is_some, MatchResult, ap, subst}
+use Rattle.std.proofs.Common.{◌≡◌, List, Some, None, MatchResult, subst}
 use Rattle.keeper_core.specs.declared.row.Row.{Row}
-use Rattle.ledger_rows.specs.declared.registration.Registration.{Registration}
 use Rattle.ledger_rows.specs.OpenDeals.{open_rows}
 use Rattle.ledger_rows.specs.RowKeys.{deal_tab}
 use Rattle.ledger_rows.specs.RowReading.{LacksForm, first_formless, forms_refusal}
 use Rattle.ledger_rows.specs.RowValues.{registration_in}
-use Rattle.ledger_rows.proofs.TableReads.{table_answers}
+use Rattle.ledger_rows.proofs.TableReads.{table_answers, unread_deal}
 use Rattle.ledger_rows.proofs.open_deals.count_open.Goals as goal
 
 pub returns : goal.returns
@@ -14,7 +13,7 @@ returns g c =
     let lists = rw c.in_ok-rows.was at c.scan.ensures.lists in
     let leaves = rw c.in_ok-rows.was at c.scan.ensures.leaves in
     let looked = rw c.in_ok-rows.was at c.scan.ensures.looked in
-    table_answers registration_in deal_tab (open_rows account) LacksForm (λ row none. ap (λ (o : Option Registration). is_some o) none) c.in_ok-rows.rows
+    table_answers registration_in deal_tab (open_rows account) LacksForm unread_deal c.in_ok-rows.rows
     (g.K.Keeper.known c.args.keeper.now) (g.K.Keeper.known c.scan.new.self) lists leaves looked c.open_among.result
     (subst
     (λ (rows : List Row). MatchResult c.open_among.result (λ count. (first_formless registration_in rows ≡ None) × (count ≡ open_rows account rows)) (λ fault. forms_refusal registration_in deal_tab rows ≡ Some fault))
