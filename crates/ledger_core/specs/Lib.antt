@@ -1,2 +1,4 @@
 pub mod AskFaults
 pub mod OpenFaults
+pub mod Ledgers
+pub mod Questions

@@ -18,3 +18,4 @@ pub mod RoomReads
 pub mod HeldRows
 pub mod RowForms
 pub mod ScanReads
+pub mod ScansStand

@@ -66,6 +66,10 @@ amount_at tab front tables asset =
     then option_and_then (λ val. above_zero (amount_in val))
     (get tables (tab, front ++ name_field asset)) else None
 
+-- what there is of an asset, where that is more than nothing
+abbrev pub some_of : (List ℕ → ℕ) → List ℕ → Option ℕ
+some_of amount_of asset = if is_name asset then above_zero (amount_of asset) else None
+
 -- Each asset is before those behind it, by its characters.
 abbrev pub AreInOrder : List HeldRow → Type 0
 AreInOrder rows =

@@ -1,0 +1,114 @@
+//! Ledgers.
+
+ghost use Rattle.std.specs.Prelude.{◌≡◌, None, IfErr, IfOk, Some};
+ghost use Rattle.std.specs.Result.{IsErrOf};
+ghost use Rattle.escrow_book.specs.History.{free_of, settlement_of};
+ghost use Rattle.keeper_core.specs.Knowing.{FailsNext};
+ghost use Rattle.keeper_core.specs.Leaving.{of_store_fault};
+ghost use Rattle.keeper_core.specs.StoreFaults.{HasCause};
+ghost use Rattle.ledger_rows.specs.Asking.{Asks};
+ghost use Rattle.ledger_rows.specs.Entries.{book_of};
+ghost use Rattle.ledger_rows.specs.RowKeys.{free_tab};
+ghost use Rattle.ledger_rows.specs.RowReading.{LacksForm, deal_said};
+ghost use Rattle.ledger_rows.specs.Scanning.{scan_refusal, amount_at, some_of, AreInOrder, AreAmounts};
+ghost use Rattle.ledger_core.specs.AskFaults.{of_ask_fault};
+ghost use Rattle.ledger_core.specs.Questions.{TellsBy, unknown_deal, settlement_refusal, outcome_of, rows_beside, AskCause};
+
+use crate::ask_fault::AskFault;
+use crate::asking::{settlement_at, spendable, wide};
+use act_text::HeldRow;
+use dh_base::{Id, List, Name, Outcome};
+use keeper_core::{Arm, Keeper, MemKeeper, StoreFault};
+use std::alloc::Global;
+use std::marker::Model;
+
+/// A ledger over a keeper, in which it keeps all but two counts. A contract sees the keeper, the
+/// name, the house, and how many entries and acts there are.
+#[derive(Drop)]
+pub struct Ledger<K> {
+    alloc: Global,
+    keeper: K,
+    name: Name,
+    house: Id,
+    entries: u64,
+    acts: u32,
+}
+
+impl<K> Model for Ledger<K> {
+    ghost use Rattle.ledger_core.specs.Ledgers.{LedgerTold};
+
+    ghost Value = { LedgerTold K };
+
+    ghost view = { λ l. record {
+      keeper = l.keeper;
+      name = l.name;
+      house = l.house;
+      entries = l.entries;
+      acts = l.acts;
+    } };
+}
+
+impl<K: Keeper> Ledger<K> {
+    /// Gives the keeper back as it is.
+    pub fn close(self) -> K
+        ensures { result ≡ self.keeper }
+    {
+        let Ledger { keeper, .. } = self;
+        keeper
+    }
+
+    /// The keeper.
+    pub fn keeper(&self) -> &K
+        ensures { result.now ≡ self.now.keeper }
+    {
+        &self.keeper
+    }
+
+    /// How a deal has ended here, if it has.
+    pub fn settlement(&mut self, deal: &Id) -> Result<Option<Outcome>, AskFault>
+        ensures tells { TellsBy of_ask_fault (unknown_deal deal.now)
+            (λ opened entries settled. settled
+            ≡ settlement_of (book_of opened.rows entries) deal.now) result
+            (K.known self.old.keeper) (K.known self.new.keeper) }
+        // By the tables, whatever they are.
+        ensures asks { Asks of_ask_fault (λ tables. 8) (settlement_refusal deal.now)
+            (λ tables outcome. outcome ≡ outcome_of (deal_said deal.now tables)) result
+            (K.known self.old.keeper) (K.known self.new.keeper) }
+        ensures cause { IfErr result (AskCause (K.known self.new.keeper).tables) }
+        ensures fails { FailsNext (K.known self.old.keeper)
+            → IsErrOf result (AskFault.Store StoreFault.Keeper) }
+        ensures rest { self.new ≡ record self.old { keeper = self.new.keeper } }
+    {
+        settlement_at(self.alloc, &mut self.keeper, deal)
+    }
+
+    /// What an account can spend: the amounts above 0, by their assets.
+    pub fn account(&mut self, account: &Id) -> Result<List<HeldRow>, StoreFault>
+        ensures tells { TellsBy of_store_fault (λ entries. None)
+            (λ opened entries. AreAmounts (some_of
+            (free_of (book_of opened.rows entries) account.now))) result
+            (K.known self.old.keeper) (K.known self.new.keeper) }
+        // By the tables, whatever they are.
+        ensures asks { Asks of_store_fault (rows_beside free_tab) (scan_refusal free_tab)
+            (λ tables. AreAmounts (amount_at free_tab account.now.0 tables)) result
+            (K.known self.old.keeper) (K.known self.new.keeper) }
+        ensures order { IfOk result AreInOrder }
+        ensures cause { IfErr result (HasCause LacksForm (K.known self.new.keeper).tables) }
+        ensures fails { FailsNext (K.known self.old.keeper) → IsErrOf result StoreFault.Keeper }
+        ensures rest { self.new ≡ record self.old { keeper = self.new.keeper } }
+    {
+        wide(account);
+        spendable(self.alloc, &mut self.keeper, account)
+    }
+}
+
+impl Ledger<MemKeeper> {
+    /// Tells the keeper to fail or to stop.
+    pub fn arm(&mut self, what: Arm)
+        ensures { self.new ≡ record self.old {
+          keeper = record self.old.keeper { armed = Some what };
+        } }
+    {
+        self.keeper.arm(what);
+    }
+}
