@@ -2,3 +2,5 @@ pub mod AskFaults
 pub mod OpenFaults
 pub mod Ledgers
 pub mod Questions
+pub mod Openings
+pub mod FormRows

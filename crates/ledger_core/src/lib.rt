@@ -1,15 +1,19 @@
 //! Ledgers: they keep assets for parties, and take acts in signed envelopes, each once.
 //!
 //! - `ledger`: ledgers; `asking`: questions to them
+//! - `opening`: openings; `form_row`: the row by which tables name theirs
 //! - `ask_fault`, `open_fault`: why a ledger answers no question, and why it isn't opened
 #![tactic(auto)]
 
 pub mod ask_fault;
 mod asking;
+mod form_row;
 pub mod ledger;
 pub mod open_fault;
+pub mod opening;
 
 pub use ask_fault::AskFault;
 pub use ledger::Ledger;
 pub use ledger_acts::LedgerFault;
 pub use open_fault::OpenFault;
+pub use opening::{OpenRow, Opening};
