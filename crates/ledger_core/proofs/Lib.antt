@@ -1,3 +1,5 @@
 pub mod Asked
 pub mod Settled
 pub mod Spendable
+pub mod Halving
+pub mod OpenCalls

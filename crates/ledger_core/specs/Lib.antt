@@ -4,3 +4,4 @@ pub mod Ledgers
 pub mod Questions
 pub mod Openings
 pub mod FormRows
+pub mod Opens

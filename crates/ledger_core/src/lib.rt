@@ -1,7 +1,8 @@
 //! Ledgers: they keep assets for parties, and take acts in signed envelopes, each once.
 //!
 //! - `ledger`: ledgers; `asking`: questions to them
-//! - `opening`: openings; `form_row`: the row by which tables name theirs
+//! - `opening`: openings; `form_row`: the row by which tables name theirs; `opens`: opening a ledger
+//!   over tables
 //! - `ask_fault`, `open_fault`: why a ledger answers no question, and why it isn't opened
 #![tactic(auto)]
 
@@ -11,6 +12,7 @@ mod form_row;
 pub mod ledger;
 pub mod open_fault;
 pub mod opening;
+mod opens;
 
 pub use ask_fault::AskFault;
 pub use ledger::Ledger;

@@ -2,7 +2,7 @@
 
 use dh_base::refusal::{hash, number, write_refusal};
 use dh_base::{Id, NoMemory, Refusal, Telling};
-use keeper_core::StoreFault;
+use keeper_core::{KeepFault, StoreFault};
 use std::fmt;
 
 /// Why a ledger is not opened.
@@ -24,6 +24,18 @@ impl From<StoreFault> for OpenFault {
 
     fn from(fault: StoreFault) -> OpenFault {
         OpenFault::Store { fault }
+    }
+}
+
+impl From<KeepFault> for OpenFault {
+    ghost use Rattle.std.specs.Prelude.{◌≡◌};
+    ghost use Rattle.keeper_core.specs.StoreFaults.{store_fault_of};
+    ghost use Rattle.ledger_core.specs.declared.open_fault.OpenFault.TheVariants.{Store};
+
+    ghost from_gives = { λ fault given. given ≡ Store (store_fault_of fault) };
+
+    fn from(fault: KeepFault) -> OpenFault {
+        OpenFault::from(StoreFault::from(fault))
     }
 }
 

@@ -27,10 +27,7 @@ pub struct Opening {
 }
 
 /// The rows, as a book opens with them.
-pub(crate) fn book_rows(
-    alloc: Global,
-    rows: &[OpenRow],
-) -> Result<Vec<(Id, Name, u64)>, NoMemory>
+pub(crate) fn book_rows(alloc: Global, rows: &[OpenRow]) -> Result<Vec<(Id, Name, u64)>, NoMemory>
     ensures { IfOk result (λ made. made.items ≡ book_rows rows.now) }
 {
     let mut made = Vec::new(alloc);
