@@ -13,7 +13,7 @@ use Rattle.vote_log.specs.Entry.{Entry}
 use Rattle.vote_log.specs.Heads.{head_after}
 use Rattle.cert_core.specs.Sets.{SetTold, id_of_set}
 use Rattle.cert_core.specs.SetReading.{set_of}
-use Rattle.cert_core.specs.declared.set_fault.SetFault.{SetFault}
+
 use Rattle.cert_core.specs.SeatTexts.{handover_text, prefix_text}
 use Rattle.cert_core.specs.Quorums.{IsQuorum, quorum_size, quorum_of}
 use Rattle.cert_core.specs.declared.seat_sig.SeatSig.{SeatSig}
@@ -43,7 +43,7 @@ unfolding named_set next_set
 next_there house recs set link next h p =
     rw (h.reads, eq-eqb next.epoch (set.epoch + 1) h.epoch, on_path house recs link p, counted set _ link.sigs h.quorum) refl
 
-abbrev onward : Id → List Entry → ℕ → List Link → SetTold → Result SetTold ClaimFault
+abbrev pub onward : Id → List Entry → ℕ → List Link → SetTold → Result SetTold ClaimFault
 onward house recs number links next = last_set house recs (suc number) next links
 
 pub last_there : (house : Id) (recs : List Entry) (number : ℕ) (set : SetTold) (links : List Link) (last : SetTold) → ChainLeadsTo house recs set links last → last_set house recs number set links ≡ Ok last
@@ -68,24 +68,24 @@ all_at P (y ∷ ys) (suc k) x all h is = all_at P ys k x all.1 (omega arith) is
 abbrev with_epoch : SetTold → SetTold → Result SetTold LinkFault
 with_epoch set next = cond (next.epoch == set.epoch + 1) (Ok next) (Err (WrongEpoch (set.epoch + 1) next.epoch))
 
-was_read : (r : Result SetTold SetFault) (set : SetTold) → or_fault BadSet r ≡ Ok set → r ≡ Ok set
-was_read (Ok x) set e = cc
-was_read (Err d) set e = absurd cc
+pub was_ok : {A E F : Type 0} (of : E → F) (r : Result A E) (x : A) → or_fault of r ≡ Ok x → r ≡ Ok x
+was_ok of (Ok y) x e = cc
+was_ok of (Err d) x e = absurd cc
 
 passed : {A F : Type 0} (b : Bool) (x y : A) (d : F) → cond b (Ok x) (Err d) ≡ Ok y → (b ≡ true) × (x ≡ y)
 passed true x y d e = (refl, cc)
 passed false x y d e = absurd cc
 
-named_there : (set : SetTold) (link : Link) (next : SetTold) → named_set set link ≡ Ok next → (set_of link.set_text ≡ Ok next) × (next.epoch ≡ set.epoch + 1)
+pub named_there : (set : SetTold) (link : Link) (next : SetTold) → named_set set link ≡ Ok next → (set_of link.set_text ≡ Ok next) × (next.epoch ≡ set.epoch + 1)
 unfolding named_set
 named_there set link next e =
     let a = bind_ok (or_fault BadSet (set_of link.set_text)) (with_epoch set) next e in
     let b = passed (a.0.epoch == set.epoch + 1) a.0 next (WrongEpoch (set.epoch + 1) a.0.epoch) a.2 in
-    let read : set_of link.set_text ≡ Ok a.0 = was_read (set_of link.set_text) a.0 a.1 in
+    let read : set_of link.set_text ≡ Ok a.0 = was_ok BadSet (set_of link.set_text) a.0 a.1 in
     let epoch : a.0.epoch ≡ set.epoch + 1 = eqb-true a.0.epoch (set.epoch + 1) b.0 in
     subst (λ (s : SetTold). (set_of link.set_text ≡ Ok s) × (s.epoch ≡ set.epoch + 1)) b.1 (read, epoch)
 
-path_there : (house : Id) (recs : List Entry) (link : Link) → is_on_path house recs link ≡ true → IsOnPath house recs link
+pub path_there : (house : Id) (recs : List Entry) (link : Link) → is_on_path house recs link ≡ true → IsOnPath house recs link
 path_there house recs link e =
     let p = and_parts (nat_le link.len (length recs)) (same_id (head_after house (take link.len recs)) link.head) e in
     record { within = leb-true link.len (length recs) p.0; head = sym (id_from_same (head_after house (take link.len recs)) link.head p.1) }
@@ -149,12 +149,12 @@ vouched_there set claim own recs text sigs is_own is_recs is_text is_sigs q =
 abbrev told_by : SetTold → Claim → ℕ → Result Certified ClaimFault
 told_by set claim counted = Ok (certified_by set claim)
 
-let_by : {A F : Type 0} (b : Bool) (d : F) (r : Result A F) (y : A) → cond (not b) (Err d) r ≡ Ok y → (b ≡ true) × (r ≡ Ok y)
+pub let_by : {A F : Type 0} (b : Bool) (d : F) (r : Result A F) (y : A) → cond (not b) (Err d) r ≡ Ok y → (b ≡ true) × (r ≡ Ok y)
 let_by true d r y e = (refl, e)
 let_by false d r y e = absurd cc
 
 -- what is told of a claim without fault
-told_there : (house : Id) (set : SetTold) (claim : Claim) (told : Certified) → certified_for house set claim ≡ Ok told → (claim.head ≡ head_after house claim.recs) × (told ≡ certified_by set claim)
+pub told_there : (house : Id) (set : SetTold) (claim : Claim) (told : Certified) → certified_for house set claim ≡ Ok told → (claim.head ≡ head_after house claim.recs) × (told ≡ certified_by set claim)
 unfolding certified_for
 told_there house set claim told e =
     let a = let_by (same_id (head_after house claim.recs) claim.head) (WrongHead (head_after house claim.recs) claim.head) (or_fault BadQuorum (quorum_of set (vouched_for set claim) claim.sigs) >>= told_by set claim) told e in

@@ -1,3 +1,4 @@
+pub mod ClaimsFound
 pub mod Fitting
 pub mod Formats
 pub mod Leading

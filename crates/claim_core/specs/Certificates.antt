@@ -1,12 +1,14 @@
 -- Certified claims.
 use Rattle.std.specs.Prelude.{ℕ, ◌≡◌, List, length}
+use Rattle.std.specs.List.{AllByRecursion}
 use Rattle.dh_base.specs.declared.id.Id.{Id}
 use Rattle.vote_log.specs.Heads.{head_after}
 use Rattle.cert_core.specs.Sets.{SetTold, id_of_set}
 use Rattle.cert_core.specs.SeatTexts.{prefix_text}
-use Rattle.cert_core.specs.Quorums.{IsQuorum}
+use Rattle.cert_core.specs.Quorums.{IsQuorum, HaveByteRings}
 use Rattle.claim_core.specs.declared.certificate.Certified.{Certified}
 use Rattle.claim_core.specs.declared.claim.Claim.{Claim}
+use Rattle.claim_core.specs.declared.link.Link.{Link}
 use Rattle.claim_core.specs.Chains.{ChainLeadsTo}
 
 -- what the seats of the last set sign
@@ -32,3 +34,8 @@ certified_by set claim = record {
   len = length claim.recs;
   head = claim.head;
 }
+
+-- The texts of all rings in the claim are of bytes, as those of any claim that a program holds.
+pub record HasByteRings (claim : Claim) : Type 0 where
+  pub links : AllByRecursion (λ (link : Link). HaveByteRings link.sigs) claim.links
+  pub sigs : HaveByteRings claim.sigs

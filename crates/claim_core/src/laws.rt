@@ -3,13 +3,20 @@
 ghost use Rattle.std.specs.Prelude.{◌≡◌, ◌↔◌, List, ℕ, Ok};
 ghost use Rattle.dh_base.specs.Fields.{AreBytes};
 ghost use Rattle.cert_core.specs.Sets.{SetTold};
-ghost use Rattle.claim_core.specs.Certificates.{Certifies, certified_by};
+ghost use Rattle.claim_core.specs.Certificates.{Certifies, HasByteRings, certified_by};
 ghost use Rattle.claim_core.specs.FirstBroken.{certified_of};
 ghost use Rattle.claim_core.specs.ClaimTexts.{LinkFits, ClaimFits, LinkHasText, ClaimHasText, link_text, claim_text};
 ghost use Rattle.claim_core.specs.ClaimReading.{link_of, claim_of};
 ghost use Rattle.claim_core.specs.declared.certificate.Certified.{Certified};
 ghost use Rattle.claim_core.specs.declared.claim.Claim.{Claim};
 ghost use Rattle.claim_core.specs.declared.link.Link.{Link};
+
+/// A claim has no broken part exactly where it certifies, and then what is certified is told.
+pub fn certificates_found()
+    ensures { (genesis : SetTold) (claim : Claim) (told : Certified) → HasByteRings claim →
+        (certified_of genesis claim ≡ Ok told)
+        ↔ ((set : SetTold) × Certifies genesis claim set × (told ≡ certified_by set claim)) }
+{}
 
 /// Bytes are read as a link, or as a claim, exactly where they are its text.
 pub fn claims_read()

@@ -1,0 +1,4 @@
+//! Tests of claims.
+
+mod certifying;
+mod texts;
