@@ -3,8 +3,8 @@
 //! What 2f + 1 different seats say, in signed envelopes, is vouched for.
 //!
 //! [`read_set`] and [`write_set`] lead between a set and its one text, and [`set_id`] gives its id.
-//! [`quorum`] counts who has signed a text, and [`prefix_text`] and [`handover_text`] are what seats
-//! sign.
+//! [`quorum`] counts who has signed a text, and [`prefix_text`] and [`handover_text`] are what
+//! seats sign.
 #![tactic(auto)]
 
 pub mod laws;

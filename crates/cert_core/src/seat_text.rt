@@ -40,8 +40,8 @@ pub fn prefix_text(set: &Id, len: u32, head: &Id) -> [u8; 76]
     text
 }
 
-/// The text by which a seat closes its log at `len` records with that head, and hands it over to the
-/// next set.
+/// The text by which a seat closes its log at `len` records with that head, and hands it over to
+/// the next set.
 pub fn handover_text(set: &Id, len: u32, head: &Id, next: &Id) -> [u8; 108]
     ensures { result ≡ handover_text set.now len head.now next.now }
 {
