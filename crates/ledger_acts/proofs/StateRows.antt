@@ -1,37 +1,30 @@
 -- What the rows of a ledger's tables say, where the tables stand for a history.
-use Rattle.std.proofs.Common.{◌≡◌, ℕ, ◌+◌, ◌<◌, ◌≤◌, ◌^◌, ◌==◌, ◌&&◌, Bool, true, false, if◌then◌else◌, List, [], ◌∷◌, length, Option, Some, None, Result, Ok, Err, refl, sym, ap, subst, ◌∙◌, arith}
-use Rattle.std.specs.List.{AllByRecursion}
-use Rattle.std.specs.Option.{option_or, option_map}
+use Rattle.std.proofs.Common.{◌≡◌, ℕ, ◌+◌, ◌<◌, ◌≤◌, ◌^◌, ◌==◌, ◌&&◌, Bool, true, false, if◌then◌else◌, List, [], ◌∷◌, length, Option, Some, None, refl, sym, ap, subst, ◌∙◌, arith}
+use Rattle.std.specs.Option.{option_map}
 use Rattle.std.specs.FinMap.{get}
 use Rattle.std.proofs.lemmas.Bool.{eqb-true, eqb-false}
 use Rattle.dh_base.specs.Amounts.{greatest_amount}
 use Rattle.dh_base.specs.declared.id.Id.{Id}
-use Rattle.dh_base.specs.Ids.{same_id}
 use Rattle.dh_base.specs.Names.{is_name}
-use Rattle.act_text.specs.declared.act.Act.{Act}
-use Rattle.act_text.specs.declared.act.Act.TheVariants.{Register, Pay, Escrow, Transfer, StartDeal, Vote}
-use Rattle.act_text.specs.declared.act_fault.ActFault.{ActFault}
-use Rattle.act_text.specs.declared.office.Office.TheVariants.{Ledger}
-use Rattle.act_text.specs.ActReading.{act_of}
 use Rattle.escrow_book.specs.Base.{greatest_turn}
-use Rattle.escrow_book.specs.History.{History, settlement_of, free_of, if_commit_of, if_abort_of, moves_of}
+use Rattle.escrow_book.specs.History.{History, free_of, if_commit_of, if_abort_of, moves_of}
 use Rattle.escrow_book.specs.Reached.{IsReached}
 use Rattle.escrow_book.proofs.Whole.{grown}
 use Rattle.escrow_book.proofs.Steps.{base_of}
 use Rattle.escrow_book.proofs.Bounds.{free_within, if_commit_within, if_abort_within}
 use Rattle.keeper_core.specs.Tables.{Tables}
 use Rattle.ledger_rows.specs.declared.entry.Entry.{Entry}
-use Rattle.ledger_rows.specs.declared.entry.Entry.TheVariants.{Act as Accepted, Settlement}
 use Rattle.ledger_rows.specs.declared.free_amount.FreeAmount.{FreeAmount}
 use Rattle.ledger_rows.specs.declared.hold.Hold.{Hold}
 use Rattle.ledger_rows.specs.declared.move_count.MoveCount.{MoveCount}
 use Rattle.ledger_rows.specs.declared.registration.Registration.{Registration}
-use Rattle.ledger_rows.specs.RowKeys.{free_tab, deal_tab, hold_tab, moves_tab, free_key, deal_key, hold_key, moves_key}
-use Rattle.ledger_rows.specs.RowValues.{EntryFits, free_in, free_text, hold_in, hold_text, moves_in, moves_text, registration_in, registration_text}
+use Rattle.ledger_rows.specs.RowKeys.{free_tab, hold_tab, moves_tab, free_key, hold_key, moves_key}
+use Rattle.ledger_rows.specs.RowValues.{free_in, free_text, hold_in, hold_text, moves_in, moves_text}
 use Rattle.ledger_rows.specs.RowReading.{row_of, form_refusal, amount_said, free_said, free_refusal, deal_said, deal_refusal, amounts_said, hold_said, hold_refusal, count_said, moves_said, moves_refusal}
-use Rattle.ledger_rows.specs.Entries.{registered_by_act, registered_by, registration_of, book_of}
+use Rattle.ledger_rows.specs.Entries.{registration_of, book_of}
 use Rattle.ledger_rows.specs.LedgerTables.{free_value, hold_of, hold_value, moves_value, StandsFor}
-use Rattle.ledger_rows.proofs.ValuesSpelled.{spelled_free, spelled_hold, spelled_moves, spelled_registration}
+use Rattle.ledger_rows.proofs.ValuesSpelled.{spelled_free, spelled_hold, spelled_moves}
+use Rattle.ledger_rows.proofs.DealRows.{registration_with, deal_says as row_says, deal_formed as row_formed}
 use Rattle.ledger_rows.proofs.RowsKept.{free_row_is, hold_row_is, moves_row_is}
 use Rattle.ledger_acts.specs.LedgerStep.{Opened, acts_of, most_acts}
 use Rattle.ledger_acts.specs.LedgerState.{IsState}
@@ -102,37 +95,6 @@ count_is : (n : ℕ) (none : Bool) → (none ≡ true → n ≡ 0) → option_ma
 count_is n true zero = ap (λ (k : ℕ). Some k) (sym (zero refl))
 count_is n false zero = refl
 
--- ---- registered deals
-
-registrant_of_act : (d account : Id) (read : Result Act ActFault) (by : Id × List ℕ) → registered_by_act d account read ≡ Some by → account ≡ by.0
-registrant_of_act d account (Ok (Register text)) by e = go _ e
-  where
-    go : (same : Bool) → (if same then Some (account, text) else None) ≡ Some by → account ≡ by.0
-    go true is = (let pair : Some (account, text) ≡ Some by = is in ap first_or pair)
-      where
-        first_or : Option (Id × List ℕ) → Id
-        first_or None = account
-        first_or (Some b) = b.0
-    go false is = absurd cc
-registrant_of_act d account (Ok (Pay house ledger to asset amount)) by e = absurd cc
-registrant_of_act d account (Ok (Escrow deal ledger asset amount)) by e = absurd cc
-registrant_of_act d account (Ok (Transfer deal ledger turn to asset amount)) by e = absurd cc
-registrant_of_act d account (Ok (StartDeal text)) by e = absurd cc
-registrant_of_act d account (Ok (Vote deal index choice)) by e = absurd cc
-registrant_of_act d account (Err fault) by e = absurd cc
-
-registrant_of : (d : Id) (entry : Entry) (by : Id × List ℕ) → EntryFits entry → registered_by d entry ≡ Some by → length by.0.0 ≡ 32
-registrant_of d (Accepted account q message) by fits e = subst (λ (a : Id). length a.0 ≡ 32) (registrant_of_act d account (act_of Ledger message) by e) fits.0
-registrant_of d (Settlement deal outcome) by fits e = absurd cc
-
-registrant_wide : (d : Id) (entries : List Entry) (by : Id × List ℕ) → AllByRecursion EntryFits entries → registration_of entries d ≡ Some by → length by.0.0 ≡ 32
-registrant_wide d [] by fits e = absurd cc
-registrant_wide d (entry ∷ entries) by fits e = go (registered_by d entry) refl e (λ later. registrant_wide d entries by fits.1 later)
-  where
-    go : (o : Option (Id × List ℕ)) → registered_by d entry ≡ o → option_or o (registration_of entries d) ≡ Some by → (registration_of entries d ≡ Some by → length by.0.0 ≡ 32) → length by.0.0 ≡ 32
-    go None is found later = later found
-    go (Some one) is found later = registrant_of d entry by fits.0 (is ∙ found)
-
 module _ (opened : Opened) (tables : Tables) (entries : List Entry) (is : IsState opened tables entries) where
   abbrev book : History
   book = book_of opened.rows entries
@@ -173,13 +135,7 @@ module _ (opened : Opened) (tables : Tables) (entries : List Entry) (is : IsStat
 
   -- the deal as it is kept, by who registered it
   abbrev pub kept_as : Id → Id × List ℕ → Registration
-  kept_as d by = record { registrant = by.0; settled = settlement_of book d; text = by.1 }
+  kept_as d by = registration_with book d by
 
   pub deal_says : (d : Id) → (deal_said d tables ≡ Some (option_map (kept_as d) (registration_of entries d))) × (deal_refusal d tables ≡ None)
-  deal_says d =
-      let said : deal_said d tables ≡ Some (option_map (kept_as d) (registration_of entries d)) = ap (λ (o : Option (List ℕ)). row_of registration_in o) (is.stands.deals (deal_key d)) ∙ go (registration_of entries d) refl in
-      (said, ap (λ (o : Option (Option Registration)). form_refusal deal_tab (deal_key d) o) said)
-    where
-      go : (o : Option (Id × List ℕ)) → registration_of entries d ≡ o → row_of registration_in (option_map (λ (by : Id × List ℕ). registration_text (kept_as d by)) o) ≡ Some (option_map (kept_as d) o)
-      go None e = refl
-      go (Some by) e = ap (option_map Some) (spelled_registration (kept_as d by) (registrant_wide d entries by is.fits e))
+  deal_says d = (row_says tables opened.rows entries d is.stands is.fits, row_formed tables opened.rows entries d is.stands is.fits)

@@ -1,6 +1,6 @@
 -- The deals that a book knows are those that the entries register, and no other is settled.
-use Rattle.std.proofs.Common.{◌≡◌, ℕ, ◌||◌, Bool, true, false, if◌then◌else◌, List, [], ◌∷◌, ◌++◌, Option, Some, None, is_some, Result, Ok, Err, refl, sym, ap, ◌∙◌}
-use Rattle.std.specs.Option.{option_or}
+use Rattle.std.proofs.Common.{◌≡◌, ℕ, Bool, true, false, if◌then◌else◌, List, [], ◌∷◌, ◌++◌, Option, Some, None, is_some, Result, Ok, Err, refl, sym, ap, ◌∙◌}
+use Rattle.std.specs.Option.{option_map, option_or}
 use Rattle.dh_base.specs.declared.id.Id.{Id}
 use Rattle.dh_base.specs.declared.outcome.Outcome.{Outcome}
 use Rattle.dh_base.specs.Ids.{same_id}
@@ -17,73 +17,68 @@ use Rattle.escrow_book.specs.Opening.{Row}
 use Rattle.escrow_book.specs.History.{History, with_change, registration, settlement, parties_of, settlement_of, is_known}
 use Rattle.escrow_book.specs.Reached.{started, registered, IsGrown, IsReached, IsAccepted}
 use Rattle.escrow_book.proofs.Accepting.{settle_accepted}
-use Rattle.escrow_book.proofs.Lookups.{parties_push, parties_kept, settlement_push, both_none}
+use Rattle.escrow_book.proofs.Lookups.{or_none, or_assoc, parties_push, parties_kept, settlement_push, both_none}
 use Rattle.escrow_book.proofs.Steps.{history, by_steps, base_of}
 use Rattle.escrow_book.proofs.Whole.{grown}
 use Rattle.ledger_rows.specs.declared.entry.Entry.{Entry}
 use Rattle.ledger_rows.specs.declared.entry.Entry.TheVariants.{Act as Accepted, Settlement}
-use Rattle.ledger_rows.specs.Entries.{digest_of, parties_in, with_act, with_read, with_entry, with_entries, book_of, registered_by_act, registered_by, registration_of}
+use Rattle.ledger_rows.specs.Entries.{digest_of, parties_in, with_read, with_entry, with_entries, book_of, registered_by_act, registered_by, registration_of}
 
--- ---- which deals are known
+-- ---- which deals are known, and with which parties
 
-either_some : {T : Type 0} (o p : Option T) → is_some (option_or o p) ≡ (is_some o || is_some p)
-either_some None p = refl
-either_some (Some t) p = refl
+-- the parties that the registering text names
+abbrev pub parties_by : Option (Id × List ℕ) → Option (List Id)
+parties_by found = option_map (λ (by : Id × List ℕ). parties_in by.1) found
 
-or_false : (b : Bool) → (b || false) ≡ b
-or_false true = refl
-or_false false = refl
+both_mapped : (one other : Option (Id × List ℕ)) → option_or (parties_by one) (parties_by other) ≡ parties_by (option_or one other)
+both_mapped None other = refl
+both_mapped (Some by) other = refl
 
-or_assoc : (a b c : Bool) → ((a || b) || c) ≡ (a || (b || c))
-or_assoc true b c = refl
-or_assoc false b c = refl
-
--- a change that registers no deal
-quiet : (book : History) (change : Change) (d : Id) → registration d change ≡ None → is_known (with_change book change) d ≡ (is_known book d || false)
-quiet book change d none = ap (λ (o : Option (List Id)). is_some o) (parties_kept book change d none) ∙ sym (or_false (is_known book d))
-
-registers : (book : History) (deal : Id) (parties : List Id) (d : Id) (by : Id × List ℕ) → is_known (registered book deal parties) d ≡ (is_known book d || is_some (if same_id d deal then Some by else None))
-registers book deal parties d by = go (is_known book deal) refl
+registered_parties : (d : Id) (book : History) (account : Id) (text : List ℕ) → parties_of (registered book (digest_of text) (parties_in text)) d ≡ option_or (parties_of book d) (parties_by (if same_id d (digest_of text) then Some (account, text) else None))
+registered_parties d book account text = go (is_known book (digest_of text)) (same_id d (digest_of text)) refl refl
   where
-    some_if : (here : Bool) → is_some (if here then Some parties else None) ≡ is_some (if here then Some by else None)
-    some_if true = refl
-    some_if false = refl
+    known_stays : (o : Option (List Id)) (rest : Option (List Id)) → is_some o ≡ true → o ≡ option_or o rest
+    known_stays None rest e = absurd cc
+    known_stays (Some parties) rest e = refl
 
-    there : (here : Bool) → here ≡ same_id d deal → is_known book deal ≡ true → is_known book d ≡ (is_known book d || is_some (if here then Some by else None))
-    there true same known = is_it same known ∙ sym (ap (λ (b : Bool). b || true) (is_it same known))
-      where
-        is_it : true ≡ same_id d deal → is_known book deal ≡ true → is_known book d ≡ true
-        is_it same known = ap (λ (i : Id). is_known book i) (id_from_same d deal (sym same)) ∙ known
-    there false same known = sym (or_false (is_known book d))
+    go : (known same : Bool) → is_known book (digest_of text) ≡ known → same_id d (digest_of text) ≡ same →
+        parties_of (if known then book else with_change book (Registered (digest_of text) (parties_in text))) d ≡ option_or (parties_of book d) (parties_by (if same then Some (account, text) else None))
+    go true true known same = known_stays (parties_of book d) (Some (parties_in text)) (ap (λ (e : Id). is_known book e) (id_from_same d (digest_of text) same) ∙ known)
+    go true false known same = sym (or_none (parties_of book d))
+    go false true known same = parties_push book (Registered (digest_of text) (parties_in text)) d ∙ ap (λ (b : Bool). option_or (parties_of book d) (if b then Some (parties_in text) else None)) same
+    go false false known same = parties_push book (Registered (digest_of text) (parties_in text)) d ∙ ap (λ (b : Bool). option_or (parties_of book d) (if b then Some (parties_in text) else None)) same
 
-    go : (known : Bool) → is_known book deal ≡ known → is_known (if known then book else with_change book (Registered deal parties)) d ≡ (is_known book d || is_some (if same_id d deal then Some by else None))
-    go true is = there (same_id d deal) refl is
-    go false is =
-        ap (λ (o : Option (List Id)). is_some o) (parties_push book (Registered deal parties) d) ∙ either_some (parties_of book d) (registration d (Registered deal parties))
-        ∙ ap (λ (b : Bool). is_known book d || b) (some_if (same_id d deal))
+read_parties : (d : Id) (book : History) (account : Id) (read : Result Act ActFault) → parties_of (with_read book account read) d ≡ option_or (parties_of book d) (parties_by (registered_by_act d account read))
+read_parties d book account (Err fault) = sym (or_none (parties_of book d))
+read_parties d book account (Ok (Register text)) = registered_parties d book account text
+read_parties d book account (Ok (Pay house ledger to asset amount)) = parties_kept book (Paid account to asset amount) d refl ∙ sym (or_none (parties_of book d))
+read_parties d book account (Ok (Escrow deal ledger asset amount)) = parties_kept book (Escrowed deal account asset amount) d refl ∙ sym (or_none (parties_of book d))
+read_parties d book account (Ok (Transfer deal ledger turn to asset amount)) = parties_kept book (Transferred deal account to asset amount) d refl ∙ sym (or_none (parties_of book d))
+read_parties d book account (Ok (StartDeal text)) = sym (or_none (parties_of book d))
+read_parties d book account (Ok (Vote deal index choice)) = sym (or_none (parties_of book d))
 
-act_known : (book : History) (account : Id) (read : Result Act ActFault) (d : Id) → is_known (with_read book account read) d ≡ (is_known book d || is_some (registered_by_act d account read))
-act_known book account (Err fault) d = sym (or_false (is_known book d))
-act_known book account (Ok (Register text)) d = registers book (digest_of text) (parties_in text) d (account, text)
-act_known book account (Ok (Pay house ledger to asset amount)) d = quiet book (Paid account to asset amount) d refl
-act_known book account (Ok (Escrow deal ledger asset amount)) d = quiet book (Escrowed deal account asset amount) d refl
-act_known book account (Ok (Transfer deal ledger turn to asset amount)) d = quiet book (Transferred deal account to asset amount) d refl
-act_known book account (Ok (StartDeal text)) d = sym (or_false (is_known book d))
-act_known book account (Ok (Vote deal index choice)) d = sym (or_false (is_known book d))
+entry_parties : (d : Id) (book : History) (entry : Entry) → parties_of (with_entry book entry) d ≡ option_or (parties_of book d) (parties_by (registered_by d entry))
+entry_parties d book (Accepted account q message) = read_parties d book account (act_of Ledger message)
+entry_parties d book (Settlement deal outcome) = parties_kept book (Settled deal outcome) d refl ∙ sym (or_none (parties_of book d))
 
-entry_known : (book : History) (e : Entry) (d : Id) → is_known (with_entry book e) d ≡ (is_known book d || is_some (registered_by d e))
-entry_known book (Accepted account q message) d = act_known book account (act_of Ledger message) d
-entry_known book (Settlement deal outcome) d = quiet book (Settled deal outcome) d refl
+parties_from : (d : Id) (entries : List Entry) (book : History) → parties_of (with_entries book entries) d ≡ option_or (parties_of book d) (parties_by (registration_of entries d))
+parties_from d [] book = sym (or_none (parties_of book d))
+parties_from d (entry ∷ entries) book =
+    parties_from d entries (with_entry book entry) ∙ ap (λ (o : Option (List Id)). option_or o (parties_by (registration_of entries d))) (entry_parties d book entry)
+    ∙ sym (or_assoc (parties_of book d) (parties_by (registered_by d entry)) (parties_by (registration_of entries d)))
+    ∙ ap (option_or (parties_of book d)) (both_mapped (registered_by d entry) (registration_of entries d))
 
-entries_known : (book : History) (entries : List Entry) (d : Id) → is_known (with_entries book entries) d ≡ (is_known book d || is_some (registration_of entries d))
-entries_known book [] d = sym (or_false (is_known book d))
-entries_known book (e ∷ entries) d =
-    entries_known (with_entry book e) entries d ∙ ap (λ (b : Bool). b || is_some (registration_of entries d)) (entry_known book e d)
-    ∙ or_assoc (is_known book d) (is_some (registered_by d e)) (is_some (registration_of entries d)) ∙ ap (λ (b : Bool). is_known book d || b) (sym (either_some (registered_by d e) (registration_of entries d)))
+-- the book knows a deal by the text of the first entry that registers it
+pub parties_by_entries : (opening : List Row) (entries : List Entry) (d : Id) → parties_of (book_of opening entries) d ≡ parties_by (registration_of entries d)
+parties_by_entries opening entries d = parties_from d entries (started opening)
 
 -- The book knows a deal exactly where an entry registers it.
 pub known_is_registered : (opening : List Row) (entries : List Entry) (d : Id) → is_known (book_of opening entries) d ≡ is_some (registration_of entries d)
-known_is_registered opening entries d = entries_known (started opening) entries d
+known_is_registered opening entries d = ap (λ (o : Option (List Id)). is_some o) (parties_by_entries opening entries d) ∙ mapped (registration_of entries d)
+  where
+    mapped : (o : Option (Id × List ℕ)) → is_some (parties_by o) ≡ is_some o
+    mapped None = refl
+    mapped (Some by) = refl
 
 -- ---- which deals are settled
 
