@@ -14,3 +14,8 @@ pub mod StateRows
 pub mod DealParties
 pub mod RegisterCalls
 pub mod RegisterSteps
+pub mod OnceSteps
+pub mod MovementSteps
+pub mod ActsStep
+pub mod Unasked
+pub mod MovesOnce

@@ -5,3 +5,4 @@ pub mod ByRows
 pub mod Once
 pub mod Movements
 pub mod Registering
+pub mod Steps

@@ -1,9 +1,11 @@
 -- Movements: payments, escrows and transfers, by the rows that they read.
-use Rattle.std.specs.Prelude.{ℕ, ◌<◌, ◌&&◌, if◌then◌else◌, List, [], ◌∷◌, ◌++◌, Option, Some, None, Bool}
+use Rattle.std.specs.Prelude.{ℕ, ◌+◌, ◌<◌, ◌&&◌, if◌then◌else◌, List, [], ◌∷◌, ◌++◌, Option, Some, None, Bool, Result}
 use Rattle.std.specs.List.{slice_get}
-use Rattle.std.specs.Option.{option_map}
+use Rattle.std.specs.Option.{option_map, option_or}
 use Rattle.dh_base.specs.declared.id.Id.{Id}
 use Rattle.dh_base.specs.Ids.{same_id}
+use Rattle.act_text.specs.declared.act.Act.{Act}
+use Rattle.act_text.specs.declared.act.Act.TheVariants as act
 use Rattle.escrow_book.specs.declared.change.Change.{Change as BookChange}
 use Rattle.escrow_book.specs.declared.change.Change.TheVariants.{Paid, Escrowed, Transferred}
 use Rattle.escrow_book.specs.declared.fault.BookFault.{BookFault}
@@ -20,18 +22,23 @@ use Rattle.keeper_core.specs.declared.change.Change.{Change}
 use Rattle.keeper_core.specs.declared.store_fault.StoreFault.{StoreFault}
 use Rattle.keeper_core.specs.declared.store_fault.StoreFault.TheVariants as store
 use Rattle.keeper_core.specs.StoreFaults.{bad_row_of}
+use Rattle.keeper_core.specs.Knowing.{Known}
 use Rattle.keeper_core.specs.Tables.{Tables}
 use Rattle.ledger_rows.specs.declared.hold.Hold.{Hold as Held}
 use Rattle.ledger_rows.specs.declared.registration.Registration.{Registration}
 use Rattle.ledger_rows.specs.RowReading.{both_said, either_refusal, free_said, free_refusal, deal_said, deal_refusal, hold_said, hold_refusal, moves_said, moves_refusal}
 use Rattle.ledger_rows.specs.LedgerTables.{hold_of}
-use Rattle.ledger_rows.specs.ActChanges.{payment_changes, escrow_changes, transfer_changes}
+use Rattle.ledger_rows.specs.Entries.{digest_of}
+use Rattle.ledger_rows.specs.ActChanges.{act_changes, payment_changes, escrow_changes, transfer_changes}
 use Rattle.ledger_acts.specs.declared.ledger_fault.LedgerFault.{LedgerFault}
 use Rattle.ledger_acts.specs.declared.ledger_fault.LedgerFault.TheVariants.{Store}
 use Rattle.ledger_acts.specs.declared.movement.Movement.{Movement}
 use Rattle.ledger_acts.specs.declared.movement.Movement.TheVariants.{Payment, Escrow, Transfer}
-use Rattle.ledger_acts.specs.LedgerStep.{first_of, by_book, full}
-use Rattle.ledger_acts.specs.ByRows.{cell_of_row, RowAct}
+use Rattle.ledger_acts.specs.declared.ledger_id.LedgerId.{LedgerId}
+use Rattle.ledger_acts.specs.LedgerStep.{first_of, by_book, wrong_ledger, wrong_house, full}
+use Rattle.ledger_acts.specs.declared.place.Place.{Place}
+use Rattle.ledger_acts.specs.ByRows.{cell_of_row, ByRows, RowAct, act_refusal, act_batches}
+use Rattle.ledger_acts.specs.Once.{once_refusal, once_batches, IsOnceAnswer}
 
 -- ---- in a book
 
@@ -166,3 +173,47 @@ moving movement acts act =
       refusal = movement_refusal movement acts;
       changes = λ rows. changes_of (moved_part movement rows) movement act;
     }
+
+-- ---- by acts
+
+-- what the act moves, as an act of the account
+abbrev pub movement_of : Id → Act → Option Movement
+movement_of account (act.Pay house ledger to asset amount) =
+    Some (Payment account to asset amount)
+movement_of account (act.Escrow deal ledger asset amount) =
+    Some (Escrow deal account asset amount)
+movement_of account (act.Transfer deal ledger turn to asset amount) =
+    Some (Transfer deal account turn to asset amount)
+movement_of account act = None
+
+-- the refusal by the ledger and the house that the act names
+abbrev pub head_refusal : LedgerId → Act → Option LedgerFault
+head_refusal ledger (act.Pay house named to asset amount) =
+    first_of (wrong_ledger ledger.name named ∷ wrong_house ledger.house house ∷ [])
+head_refusal ledger (act.Escrow deal named asset amount) = wrong_ledger ledger.name named
+head_refusal ledger (act.Transfer deal named turn to asset amount) =
+    wrong_ledger ledger.name named
+head_refusal ledger act = None
+
+-- the refusal of a movement behind that of what its act names
+abbrev pub headed : Option LedgerFault → (Tables → Option LedgerFault) → Tables
+    → Option LedgerFault
+headed head refusal tables = option_or head (refusal tables)
+
+-- The movement that the act asks for is made by the rows, if the act names the ledger.
+abbrev pub MovesByRows : LedgerId → Place → Id → ℕ → List ℕ → Act → Movement
+    → Result (Unit {0}) LedgerFault → Known → Known → Type 0
+MovesByRows ledger place account q message act movement =
+    let asked = moving movement place.acts (act_changes place.number account q message) in
+    ByRows (movement_looks movement) None (headed (head_refusal ledger act) (act_refusal asked))
+    (act_batches asked) (λ tables done. Unit {0})
+
+-- It is made under its key once.
+abbrev pub MovesOnceByRows : LedgerId → Place → Id → ℕ → List ℕ → Act → Movement
+    → Result ℕ LedgerFault → Known → Known → Type 0
+MovesOnceByRows ledger place account q message act movement =
+    let asked = moving movement place.acts (act_changes place.number account q message) in
+    ByRows (1 + movement_looks movement) None
+    (once_refusal account q (digest_of message)
+    (headed (head_refusal ledger act) (act_refusal asked)))
+    (once_batches account q (act_batches asked)) (IsOnceAnswer account q place.number)

@@ -14,7 +14,8 @@ ghost use Rattle.ledger_acts.specs.Movements.{change_of, book_refusal, changes_o
 use crate::ledger_fault::LedgerFault;
 use crate::movement::Movement;
 use crate::part_rows::read_part;
-use crate::signed::{MOST_ACTS, Place, Signed, put_act};
+use crate::place::{MOST_ACTS, Place};
+use crate::signed::{Signed, put_act};
 use dh_base::{Id, Name, NoMemory};
 use escrow_book::{Book, BookFault, BookRow, PartFault};
 use keeper_core::{Batch, Keeper, StoreFault};

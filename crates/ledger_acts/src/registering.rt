@@ -8,7 +8,8 @@ ghost use Rattle.ledger_acts.specs.ByRows.{IsRefusedBy, ActsByRows};
 ghost use Rattle.ledger_acts.specs.Registering.{Examines, told_open, room_fault, registering_changes, registering, RegistersByRows, RegistersByStep};
 
 use crate::ledger_fault::LedgerFault;
-use crate::signed::{MOST_ACTS, Place, Signed, put_act};
+use crate::place::{MOST_ACTS, Place};
+use crate::signed::{Signed, put_act};
 use deal_core::{Deal, party_of, read_deal};
 use dh_base::{Id, List, NoMemory};
 use keeper_core::{Batch, Keeper};

@@ -2,7 +2,8 @@
 
 use crate::ledger_fault::LedgerFault;
 use crate::registering::register;
-use crate::signed::{Place, Signed};
+use crate::place::Place;
+use crate::signed::Signed;
 use deal_core::DealFault;
 use dh_base::{Id, digest};
 use keeper_core::{Arm, Batch, Keeper, MemKeeper, StoreFault};

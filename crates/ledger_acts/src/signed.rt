@@ -8,23 +8,12 @@ use keeper_core::Batch;
 use ledger_rows::{Entry, UsedKey, put_entry, put_used};
 use std::alloc::Global;
 
-/// The most acts of a ledger.
-pub(crate) const MOST_ACTS: u32 = 1_000_000;
-
 /// A message, the account that says it, and the number of the account's key that signed it.
 #[derive(Clone, Copy)]
 pub struct Signed<'a> {
     pub account: Id,
     pub q: u32,
     pub message: &'a [u8],
-}
-
-/// Where the next entry of a ledger's history would stand: its number, from 1, and how many acts
-/// stand before it.
-#[derive(Clone, Copy, Debug, PartialEq, Eq)]
-pub struct Place {
-    pub number: u64,
-    pub acts: u32,
 }
 
 /// Adds that the key has signed the act, which is the entry of that number.
