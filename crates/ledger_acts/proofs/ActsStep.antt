@@ -63,13 +63,13 @@ module _ {S F : Type 0} (StandsFor : Tables → S → Type 0) (by_fault : F → 
 -- ---- the step
 
 module _ (opened : Opened) (entries : List Entry) (account : Id) (q : ℕ) (message : List ℕ) (asked : Asked) (result : Result ℕ LedgerFault) (before after : Known) where
-  abbrev entry : Entry
+  abbrev pub entry : Entry
   entry = Act account q message
 
-  abbrev Stepped : Option UsedKey → Type 0
+  abbrev pub Stepped : Option UsedKey → Type 0
   Stepped used = (reply : Result ℕ LedgerFault) × (later : List Entry) × ActSteps opened entries account q message asked used reply later × Replies opened entries reply later result before after
 
-  new_step : (step : Option LedgerFault) → IsActRefusal opened entries account asked step →
+  pub new_step : (step : Option LedgerFault) → IsActRefusal opened entries account asked step →
       Steps (IsState opened) of_ledger_fault step (λ at. at ≡ length entries + 1) entries (entries ++ entry ∷ []) result before after → Stepped None
   new_step None is s = (
     Ok (length entries + 1),
@@ -84,7 +84,7 @@ module _ (opened : Opened) (entries : List Entry) (account : Id) (q : ℕ) (mess
     refused_stays (IsState opened) of_ledger_fault entries (entries ++ entry ∷ []) result before after fault (λ at. at ≡ length entries + 1) (λ at. Err fault ≡ Ok at) s,
   )
 
-  kept_step : (used : UsedKey) (same : Bool) → same ≡ same_id (digest_of message) used.message →
+  pub kept_step : (used : UsedKey) (same : Bool) → same ≡ same_id (digest_of message) used.message →
       Steps (IsState opened) of_ledger_fault (if same then None else Some (KeyReused used.message)) (λ at. at ≡ used.at) entries entries result before after → Stepped (Some used)
   kept_step used true is s = (
     Ok used.at,

@@ -19,3 +19,6 @@ pub mod MovementSteps
 pub mod ActsStep
 pub mod Unasked
 pub mod MovesOnce
+pub mod RegistersOnce
+pub mod Submits
+pub mod OneMessage

@@ -1,5 +1,5 @@
 -- A movement under its key is the ledger's step.
-use Rattle.std.proofs.Common.{◌≡◌, ℕ, ◌+◌, List, [], ◌∷◌, Option, Some, None, Result, ap}
+use Rattle.std.proofs.Common.{◌≡◌, ℕ, ◌+◌, List, [], ◌∷◌, Option, Some, None, IfSome, Result, inl, ap}
 use Rattle.std.specs.Option.{option_map, option_or}
 use Rattle.dh_base.specs.declared.id.Id.{Id}
 use Rattle.act_text.specs.declared.act.Act.{Act as Asked}
@@ -21,6 +21,10 @@ use Rattle.ledger_acts.proofs.OnceSteps.{once_steps}
 use Rattle.ledger_acts.proofs.MovementSteps.{AsksFor, moved_step, movement_fits, refusal_is, onward}
 use Rattle.ledger_acts.proofs.ActsStep.{as_step, headed_is}
 
+pub always_told : (X : Type 0) (told : Option Tables) → X → IfSome told (λ _. X)
+always_told X None x = tt
+always_told X (Some tables) x = x
+
 few_of : (o : Option (List Change)) → AtMostOne (batches_of o)
 few_of None = tt
 few_of (Some batch) = tt
@@ -40,4 +44,4 @@ moves_once ledger place account q message asked movement of result before after 
     (λ tables is. ap (option_or head) (refusal_is opened entries account q message place.number place.acts wide small next.acts next.number movement width tables is))
     (λ unused tables is none. onward opened entries account q message place.number place.acts wide small next.acts next.number asked movement asks unused tables is (both_none head (act_refusal act tables) none).1)
     result before after by stands) in
-    record { reply = stepped.0; later = stepped.1; step = stepped.2; replies = stepped.3 }
+    always_told _ after.tables (inl (record { reply = stepped.0; later = stepped.1; step = stepped.2; replies = stepped.3 }))

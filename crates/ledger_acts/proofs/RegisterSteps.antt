@@ -137,6 +137,14 @@ module _ (opened : Opened) (tables : Tables) (entries : List Entry) (account dea
 
 -- ---- the step
 
+-- by what the text reads as and by the rows, and by the history
+pub register_agrees : (opened : Opened) (entries : List Entry) (house : Id) (text : List ℕ) (acts number : ℕ) (account : Id) (q : ℕ) (message : List ℕ) → house ≡ opened.house → acts ≡ acts_of entries → (answer : Result DealTold DealFault) →
+    (tables : Tables) → IsState opened tables entries → registration_refusal (text_refusal house account answer) (registering account (digest_of text) text acts (act_changes number account q message)) tables ≡ register_refusal opened entries account text answer
+register_agrees opened entries house text acts number account q message is_house is_acts answer tables is =
+    (λ i. option_or (text_refusal (is_house i) account answer)
+    (option_or (option_map Store (room_formed opened tables entries account (digest_of text) is i)) (option_and_then (room_fault (is_acts i)) (room_says opened tables entries account (digest_of text) is i))))
+    ∙ ap (λ (o : Option LedgerFault). option_or (text_refusal opened.house account answer) o) (room_is opened tables entries account (digest_of text) is)
+
 module _ (opened : Opened) (entries : List Entry) (house : Id) (text : List ℕ) (acts number : ℕ) (account : Id) (q : ℕ) (message : List ℕ)
     (is_house : house ≡ opened.house) (of : IsRegistrationOf text entries account q message) (is_acts : acts ≡ acts_of entries) (is_number : number ≡ length entries + 1)
     (answer : Result DealTold DealFault) (reads : Answers text answer) where
@@ -162,10 +170,7 @@ module _ (opened : Opened) (entries : List Entry) (house : Id) (text : List ℕ)
   room = unless_registered (open_deals opened.rows entries account) (standing_of h entries deal)
 
   agrees : (tables : Tables) → IsState opened tables entries → refusal tables ≡ register_refusal opened entries account text answer
-  agrees tables is =
-      (λ i. option_or (text_refusal (is_house i) account answer)
-      (option_or (option_map Store (room_formed opened tables entries account deal is i)) (option_and_then (room_fault (is_acts i)) (room_says opened tables entries account deal is i))))
-      ∙ ap (λ (o : Option LedgerFault). option_or (text_refusal opened.house account answer) o) (room_is opened tables entries account deal is)
+  agrees tables is = register_agrees opened entries house text acts number account q message is_house is_acts answer tables is
 
   few : (tables : Tables) → AtMostOne (act_batches act tables)
   few tables = go (room_said account deal tables)

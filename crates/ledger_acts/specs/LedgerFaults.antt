@@ -3,6 +3,8 @@ use Rattle.std.specs.Prelude.{List, [], ◌∷◌, codes}
 use Rattle.dh_base.specs.Refusals.{Told, told_of, field_of}
 use Rattle.dh_base.specs.declared.refusal.FieldValue.TheVariants.{Number, Hash, Called, Ending}
 use Rattle.key_ring.specs.EnvFaults.{env_fault_told}
+use Rattle.act_text.specs.declared.act_fault.ActFault.{ActFault}
+use Rattle.act_text.specs.declared.act_fault.ActFault.TheVariants as act
 use Rattle.act_text.specs.ActFaults.{act_fault_told}
 use Rattle.deal_core.specs.DealFaults.{deal_fault_told}
 use Rattle.deal_core.specs.declared.deal_fault.DealFault.{DealFault}
@@ -61,3 +63,8 @@ ledger_fault_of book.NoMemory = Store NoMemory
 abbrev pub ledger_fault_of_deal : DealFault → LedgerFault
 ledger_fault_of_deal deal.NoMemory = Store NoMemory
 ledger_fault_of_deal fault = BadDeal fault
+
+-- Want of memory at a message is the ledger's own; any other fault says that it is no act.
+abbrev pub ledger_fault_of_act : ActFault → LedgerFault
+ledger_fault_of_act act.NoMemory = Store NoMemory
+ledger_fault_of_act fault = BadAct fault

@@ -6,3 +6,4 @@ pub mod Once
 pub mod Movements
 pub mod Registering
 pub mod Steps
+pub mod Runs

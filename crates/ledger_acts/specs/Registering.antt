@@ -14,12 +14,15 @@ use Rattle.keeper_core.specs.Stepping.{Backs, Steps}
 use Rattle.keeper_core.specs.Tables.{Tables}
 use Rattle.ledger_rows.specs.declared.entry.Entry.{Entry}
 use Rattle.ledger_rows.specs.declared.entry.Entry.TheVariants.{Act}
-use Rattle.ledger_rows.specs.ActChanges.{IsNew, new_registration, registration_changes}
+use Rattle.ledger_rows.specs.ActChanges.{IsNew, act_changes, new_registration, registration_changes}
 use Rattle.ledger_rows.specs.Entries.{digest_of}
 use Rattle.ledger_rows.specs.OpenDeals.{room_said, room_refusal}
 use Rattle.ledger_rows.specs.RowKeys.{deal_tab}
 use Rattle.ledger_acts.specs.declared.ledger_fault.LedgerFault.{LedgerFault}
+use Rattle.ledger_acts.specs.declared.ledger_id.LedgerId.{LedgerId}
+use Rattle.ledger_acts.specs.declared.place.Place.{Place}
 use Rattle.ledger_acts.specs.LedgerFaults.{of_ledger_fault}
+use Rattle.ledger_acts.specs.Once.{once_refusal, once_batches, IsOnceAnswer}
 use Rattle.ledger_acts.specs.LedgerState.{IsState}
 use Rattle.ledger_acts.specs.LedgerStep.{Opened, first_of, acts_of, full, deals_full, text_refusal, register_refusal}
 use Rattle.ledger_acts.specs.ByRows.{IsRefusedBy, ByRows, RowAct, act_refusal, act_batches}
@@ -97,3 +100,19 @@ RegistersByStep house text acts number account q message result before after =
     × Steps (IsState opened) of_ledger_fault
     (register_refusal opened entries account text answer) (λ done. Unit {0}) entries
     (entries ++ Act account q message ∷ []) result before after
+
+-- ---- once
+
+-- The registration is made under its key once. Where the key has signed an accepted act, the text
+-- isn't read.
+abbrev pub RegistersOnceByRows : LedgerId → Place → Id → ℕ → List ℕ → List ℕ → Result ℕ LedgerFault
+    → Known → Known → Type 0
+RegistersOnceByRows ledger place account q message text result before after =
+    let by_rows = registering account (digest_of text) text place.acts
+    (act_changes place.number account q message) in
+    (answer : Result DealTold DealFault) × Answers text answer
+    × ByRows 3 (Some deal_tab)
+    (once_refusal account q (digest_of message)
+    (registration_refusal (text_refusal ledger.house account answer) by_rows))
+    (once_batches account q (act_batches by_rows)) (IsOnceAnswer account q place.number)
+    result before after

@@ -79,6 +79,20 @@ impl From<NoMemory> for LedgerFault {
     }
 }
 
+impl From<ActFault> for LedgerFault {
+    ghost use Rattle.std.specs.Prelude.{◌≡◌};
+    ghost use Rattle.ledger_acts.specs.LedgerFaults.{ledger_fault_of_act};
+
+    ghost from_gives = { λ fault given. given ≡ ledger_fault_of_act fault };
+
+    fn from(fault: ActFault) -> LedgerFault {
+        match fault {
+            ActFault::NoMemory => LedgerFault::from(NoMemory),
+            fault => LedgerFault::BadAct { fault },
+        }
+    }
+}
+
 impl From<DealFault> for LedgerFault {
     ghost use Rattle.std.specs.Prelude.{◌≡◌};
     ghost use Rattle.ledger_acts.specs.LedgerFaults.{ledger_fault_of_deal};

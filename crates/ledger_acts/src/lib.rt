@@ -6,9 +6,11 @@
 //! - `signed`: signed messages
 //! - `movement`, `part_rows`, `moving`: payments, escrows and transfers
 //! - `registering`: registrations
-//! - `once`: acts under their keys
+//! - `laws`: a key has one accepted message
+//! - `once`, `submitting`: acts under their keys, and as a whole by their envelopes
 #![tactic(auto)]
 
+pub mod laws;
 pub mod ledger_fault;
 pub mod ledger_id;
 mod movement;
@@ -18,12 +20,14 @@ mod part_rows;
 pub mod place;
 mod registering;
 mod signed;
+pub mod submitting;
 
 pub use ledger_fault::LedgerFault;
 pub use ledger_id::LedgerId;
 pub use movement::Movement;
 pub use place::Place;
 pub use signed::Signed;
+pub use submitting::submit;
 
 #[cfg(test)]
 mod registering_tests;

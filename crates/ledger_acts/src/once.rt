@@ -5,6 +5,7 @@ ghost use Rattle.std.specs.Result.{result_err};
 ghost use Rattle.ledger_rows.specs.Entries.{digest_of};
 ghost use Rattle.ledger_acts.specs.LedgerStep.{wrong_ledger, kept_reply};
 ghost use Rattle.ledger_acts.specs.Movements.{movement_of, head_refusal, MovesByRows, MovesOnceByRows};
+ghost use Rattle.ledger_acts.specs.Registering.{RegistersOnceByRows};
 ghost use Rattle.ledger_acts.specs.Steps.{ActsByStep};
 
 use crate::ledger_fault::LedgerFault;
@@ -12,6 +13,7 @@ use crate::ledger_id::LedgerId;
 use crate::movement::Movement;
 use crate::moving::make_movement;
 use crate::place::Place;
+use crate::registering::register;
 use crate::signed::Signed;
 use act_text::Act;
 use dh_base::{Id, Name, digest};
@@ -167,4 +169,43 @@ pub(crate) fn move_once<K: Keeper>(
         act.now result (K.known keeper.old) (K.known keeper.new) }
 {
     move_once_by_rows(alloc, keeper, ledger, place, signed, act, movement)
+}
+
+/// Registers a deal under a key, by the text and the rows.
+fn register_once_by_rows<K: Keeper>(
+    alloc: Global,
+    keeper: &mut K,
+    ledger: &LedgerId,
+    place: &Place,
+    signed: &Signed<'_>,
+    text: &[u8],
+) -> Result<u64, LedgerFault>
+    ensures { RegistersOnceByRows ledger.now place.now signed.now.account signed.now.q
+        signed.now.message.now text.now result (K.known keeper.old) (K.known keeper.new) }
+{
+    match read_used(alloc, keeper, &signed.account, signed.q)? {
+        Some(used) => kept_reply(&used, signed.message),
+        None => {
+            register(alloc, keeper, place, signed, &ledger.house, text)?;
+            Ok(place.number)
+        }
+    }
+}
+
+/// Registers the deal of a text once, as `move_once` makes a movement.
+pub(crate) fn register_once<K: Keeper>(
+    alloc: Global,
+    keeper: &mut K,
+    ledger: &LedgerId,
+    place: &Place,
+    signed: &Signed<'_>,
+    text: &[u8],
+) -> Result<u64, LedgerFault>
+    ensures rows { RegistersOnceByRows ledger.now place.now signed.now.account signed.now.q
+        signed.now.message.now text.now result (K.known keeper.old) (K.known keeper.new) }
+    ensures step { ActsByStep ledger.now place.now signed.now.account signed.now.q
+        signed.now.message.now (Act.Register text.now) result
+        (K.known keeper.old) (K.known keeper.new) }
+{
+    register_once_by_rows(alloc, keeper, ledger, place, signed, text)
 }

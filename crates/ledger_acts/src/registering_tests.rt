@@ -1,8 +1,8 @@
 //! Registrations over a keeper in memory.
 
 use crate::ledger_fault::LedgerFault;
-use crate::registering::register;
 use crate::place::Place;
+use crate::registering::register;
 use crate::signed::Signed;
 use deal_core::DealFault;
 use dh_base::{Id, digest};
