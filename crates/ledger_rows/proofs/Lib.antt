@@ -19,3 +19,4 @@ pub mod HeldRows
 pub mod RowForms
 pub mod ScanReads
 pub mod ScansStand
+pub mod SettledCounted

@@ -35,15 +35,15 @@ use Rattle.ledger_rows.proofs.DealRows.{registration_with, registrants_wide}
 use Rattle.ledger_rows.proofs.RowsKept.{registrations_more}
 use Rattle.ledger_rows.proofs.ValuesSpelled.{spelled_registration}
 
-abbrev deal_in : Row → Id
+abbrev pub deal_in : Row → Id
 deal_in row = record { 0 = row.key }
 
-abbrev one_if : Bool → ℕ
+abbrev pub one_if : Bool → ℕ
 one_if b = if b then 1 else 0
 
 -- ---- counts over rows
 
-counts_same : (p q : Row → Bool) (rows : List Row) → ((row : Row) → Contains rows row → p row ≡ q row) → count_by p rows ≡ count_by q rows
+pub counts_same : (p q : Row → Bool) (rows : List Row) → ((row : Row) → Contains rows row → p row ≡ q row) → count_by p rows ≡ count_by q rows
 counts_same p q [] same = refl
 counts_same p q (row ∷ rows) same =
     omega (
@@ -54,7 +54,7 @@ counts_same p q (row ∷ rows) same =
       counts_same p q rows (λ r there. same r (later_on row rows r there)),
     )
 
-counts_add : (p q r : Row → Bool) (rows : List Row) → ((row : Row) → one_if (p row) ≡ one_if (q row) + one_if (r row)) → count_by p rows ≡ count_by q rows + count_by r rows
+pub counts_add : (p q r : Row → Bool) (rows : List Row) → ((row : Row) → one_if (p row) ≡ one_if (q row) + one_if (r row)) → count_by p rows ≡ count_by q rows + count_by r rows
 counts_add p q r [] each = refl
 counts_add p q r (row ∷ rows) each =
     omega (
@@ -66,7 +66,7 @@ counts_add p q r (row ∷ rows) each =
       counts_add p q r rows each,
     )
 
-counts_none : (p : Row → Bool) (rows : List Row) → ((row : Row) → Contains rows row → p row ≡ false) → count_by p rows ≡ 0
+pub counts_none : (p : Row → Bool) (rows : List Row) → ((row : Row) → Contains rows row → p row ≡ false) → count_by p rows ≡ 0
 counts_none p [] none = refl
 counts_none p (row ∷ rows) none =
     omega (
@@ -84,7 +84,7 @@ other_deal row d apart = elim (cases_Bool (same_id (deal_in row) d)) [
 ]
 
 -- of rows of different keys one at most is the deal's
-counts_one : (d : Id) (p : Row → Bool) (rows : List Row) (row : Row) → Ascends rows → Contains rows row → row.key ≡ d.0 → count_by (λ r. same_id (deal_in r) d && p r) rows ≡ one_if (p row)
+pub counts_one : (d : Id) (p : Row → Bool) (rows : List Row) (row : Row) → Ascends rows → Contains rows row → row.key ≡ d.0 → count_by (λ r. same_id (deal_in r) d && p r) rows ≡ one_if (p row)
 unfolding IsStrictlySortedBy
 counts_one d p [] row up (k, lt, is) key = absurd (omega arith)
 counts_one d p (first ∷ rows) row up there key = elim (contains_cases first row rows there) [
@@ -118,7 +118,7 @@ some_of : {A B : Type 0} (f : A → B) (o : Option A) (y : B) → option_map f o
 some_of f None y e = absurd cc
 some_of f (Some x) y e = refl
 
-mapped_from : {A B : Type 0} (f : A → B) (o : Option A) (y : B) → option_map f o ≡ Some y → (x : A) × (o ≡ Some x) × (f x ≡ y)
+pub mapped_from : {A B : Type 0} (f : A → B) (o : Option A) (y : B) → option_map f o ≡ Some y → (x : A) × (o ≡ Some x) × (f x ≡ y)
 mapped_from f None y e = absurd cc
 mapped_from f (Some x) y e = (x, refl, cc)
 

@@ -1,7 +1,7 @@
 -- What is said by all rows of a table together.
-use Rattle.std.specs.Prelude.{ℕ, ◌≡◌, ◌↔◌, ◌+◌, ◌==◌, ◌&&◌, Bool, false, nat_lt, if◌then◌else◌, List, [], ◌∷◌, ◌++◌, map, length, Option, Some, None, is_some}
+use Rattle.std.specs.Prelude.{ℕ, ◌≡◌, ◌↔◌, ◌+◌, ◌==◌, ◌&&◌, Bool, true, false, nat_lt, if◌then◌else◌, List, [], ◌∷◌, ◌++◌, map, length, Option, Some, None, is_some}
 use Rattle.std.specs.Int.{w64}
-use Rattle.std.specs.List.{Contains, count_by}
+use Rattle.std.specs.List.{Contains, count_by, AllByRecursion}
 use Rattle.std.specs.List.Sorted.{IsStrictlySortedBy}
 use Rattle.std.specs.Option.{option_map, option_or, option_and_then}
 use Rattle.std.specs.Ordering.{nat_cmp}
@@ -11,14 +11,20 @@ use Rattle.std.specs.Str.{bytes_eq}
 use Rattle.act_text.specs.declared.statement.HeldRow.{HeldRow}
 use Rattle.dh_base.specs.Fields.{name_field}
 use Rattle.dh_base.specs.Names.{is_name}
+use Rattle.escrow_book.specs.Opening.{Row as OpeningRow}
+use Rattle.escrow_book.specs.Reached.{IsReached}
 use Rattle.keeper_core.specs.declared.row.Row.{Row}
 use Rattle.keeper_core.specs.declared.store_fault.StoreFault.{StoreFault}
 use Rattle.keeper_core.specs.StoreFaults.{bad_row_of}
 use Rattle.keeper_core.specs.Tables.{Tables, rows_of}
+use Rattle.ledger_rows.specs.declared.entry.Entry.{Entry}
+use Rattle.ledger_rows.specs.declared.entry.Entry.TheVariants.{Act, Settlement}
 use Rattle.ledger_rows.specs.declared.registration.Registration.{Registration}
+use Rattle.ledger_rows.specs.Entries.{book_of}
+use Rattle.ledger_rows.specs.LedgerTables.{StandsFor}
 use Rattle.ledger_rows.specs.RowKeys.{deal_tab}
 use Rattle.ledger_rows.specs.RowReading.{is_formed}
-use Rattle.ledger_rows.specs.RowValues.{number_from, registration_in}
+use Rattle.ledger_rows.specs.RowValues.{number_from, registration_in, EntryFits}
 
 -- how many rows a scan of the table looks up
 abbrev pub rows_in : ℕ → Tables → ℕ
@@ -99,3 +105,16 @@ settled_rows rows = count_by is_settled_row rows
 
 abbrev pub settled_said : Tables → Option ℕ
 settled_said tables = Some (settled_rows (rows_of deal_tab tables))
+
+-- the entry settles a deal
+abbrev pub is_settlement : Entry → Bool
+is_settlement (Act account q message) = false
+is_settlement (Settlement deal outcome) = true
+
+-- Where tables stand for a history of entries that have a spelling, as many deals have ended by the
+-- rows as by the entries.
+abbrev pub SettledCounted : Type 0
+SettledCounted = (tables : Tables) (opening : List OpeningRow) (entries : List Entry) →
+    StandsFor tables opening entries → AllByRecursion EntryFits entries →
+    IsReached (book_of opening entries) →
+    settled_rows (rows_of deal_tab tables) ≡ count_by is_settlement entries

@@ -2,6 +2,7 @@
 
 ghost use Rattle.ledger_rows.specs.ActChanges.{PaymentStands, EscrowStands, TransferStands, RegistrationStands};
 ghost use Rattle.ledger_rows.specs.OpenDeals.{OpenDealsCounted};
+ghost use Rattle.ledger_rows.specs.Scanning.{SettledCounted};
 ghost use Rattle.ledger_rows.specs.RowKeys.{FreeKeysRead, HoldKeysRead, MovesKeysRead, UsedKeysRead};
 ghost use Rattle.ledger_rows.specs.RowValues.{StandsForSpelled, free_in, FreeFits, free_text, registration_in, RegistrationFits, registration_text, hold_in, HoldFits, hold_text, moves_in, MovesFit, moves_text, used_in, UsedFits, used_text, entry_in, EntryFits, entry_text};
 
@@ -48,4 +49,10 @@ pub fn registration_stands()
 /// tables stand for.
 pub fn open_deals_counted()
     ensures { OpenDealsCounted }
+{}
+
+/// As many deals have ended by the rows of a told table as by the history that the tables stand
+/// for.
+pub fn settled_counted()
+    ensures { SettledCounted }
 {}
