@@ -3,3 +3,5 @@ pub mod Settled
 pub mod Spendable
 pub mod Halving
 pub mod OpenCalls
+pub mod Beginning
+pub mod KeptOpened

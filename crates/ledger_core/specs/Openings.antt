@@ -1,10 +1,11 @@
 -- Openings: which ledger is opened, and what its accounts can spend at first.
-use Rattle.std.specs.Prelude.{ℕ, List, ◌++◌, map}
+use Rattle.std.specs.Prelude.{ℕ, ◌≡◌, List, ◌++◌, map, length, IsTrue}
 use Rattle.std.specs.Int.{w64, to_be_bytes}
-use Rattle.std.specs.List.{flat_map}
+use Rattle.std.specs.List.{flat_map, AllByRecursion}
 use Rattle.cert_core.specs.Sets.{set_text, id_of_set}
 use Rattle.dh_base.specs.declared.id.Id.{Id}
 use Rattle.dh_base.specs.Fields.{name_field}
+use Rattle.dh_base.specs.Names.{is_name}
 use Rattle.escrow_book.specs.Opening.{Row}
 use Rattle.ledger_rows.specs.Entries.{digest_of}
 use Rattle.ledger_acts.specs.LedgerStep.{Opened}
@@ -35,3 +36,8 @@ opened_by opening =
       rows = book_rows opening.rows;
       identity = digest_of (opening_text opening);
     }
+
+-- Accounts have 32 bytes, and assets are names.
+abbrev pub AreSpelled : List Row → Type 0
+AreSpelled rows =
+    AllByRecursion (λ (row : Row). (length row.0.0 ≡ 32) × IsTrue (is_name row.1)) rows

@@ -28,6 +28,8 @@ use Rattle.ledger_acts.specs.LedgerState.{form_tab, form_key, IsState}
 use Rattle.ledger_core.specs.declared.form_row.FormRow.{FormRow}
 use Rattle.ledger_core.specs.declared.open_fault.OpenFault.{OpenFault}
 use Rattle.ledger_core.specs.declared.opens.Counts.{Counts}
+use Rattle.ledger_core.specs.declared.refused.Refused.{Refused}
+use Rattle.ledger_core.specs.Ledgers.{LedgerTold}
 use Rattle.ledger_core.specs.declared.open_fault.OpenFault.TheVariants.{BadOpening, OtherOpening, Store}
 use Rattle.ledger_core.specs.OpenFaults.{of_open_fault}
 use Rattle.ledger_core.specs.FormRows.{form_in, form_said}
@@ -141,7 +143,8 @@ OpensKept opened result before after =
 abbrev pub OpensEmpty : Opened → Result Counts OpenFault → Known → Known → Type 0
 OpensEmpty opened result before after =
     before.tables ≡ Some empty →
-    IfOk result (λ counts. AreCountsOf [] counts × Backs (IsState opened) after.tables [])
+    IfOk result (λ counts. IfSome after.tables
+    (λ tables. AreCountsOf [] counts × IsState opened tables []))
 
 -- ---- why a ledger is not opened
 
@@ -162,3 +165,15 @@ IsStoreOnly _ = ⊥
 abbrev pub OpenCause : Option Tables → OpenFault → Type 0
 OpenCause told (Store fault) = HasCause LacksItsForm told fault
 OpenCause told _ = Unit {0}
+
+-- ---- what is given back
+
+-- the counts of the ledger, or why it is not opened
+abbrev pub counts_of : {K : Type 0} → Result (LedgerTold K) (Refused K) → Result Counts OpenFault
+counts_of (Ok ledger) = Ok (record { entries = ledger.entries; acts = ledger.acts })
+counts_of (Err refused) = Err refused.fault
+
+-- the keeper, in the ledger or with the refusal
+abbrev pub kept_by : {K : Type 0} → Result (LedgerTold K) (Refused K) → K
+kept_by (Ok ledger) = ledger.keeper
+kept_by (Err refused) = refused.keeper

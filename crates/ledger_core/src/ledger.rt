@@ -11,12 +11,19 @@ ghost use Rattle.ledger_rows.specs.Entries.{book_of};
 ghost use Rattle.ledger_rows.specs.RowKeys.{free_tab};
 ghost use Rattle.ledger_rows.specs.RowReading.{LacksForm, deal_said};
 ghost use Rattle.ledger_rows.specs.Scanning.{scan_refusal, amount_at, some_of, AreInOrder, AreAmounts};
+ghost use Rattle.cert_core.specs.Sets.{id_of_set};
 ghost use Rattle.ledger_core.specs.AskFaults.{of_ask_fault};
+ghost use Rattle.ledger_core.specs.Openings.{opened_by};
+ghost use Rattle.ledger_core.specs.Opens.{OpensByRows, OpensKept, OpensEmpty, OpenCause, counts_of, kept_by};
 ghost use Rattle.ledger_core.specs.Questions.{TellsBy, unknown_deal, settlement_refusal, outcome_of, rows_beside, AskCause};
 
 use crate::ask_fault::AskFault;
 use crate::asking::{settlement_at, spendable, wide};
+use crate::opening::Opening;
+use crate::opens::open_over;
+use crate::refused::Refused;
 use act_text::HeldRow;
+use cert_core::set_id;
 use dh_base::{Id, List, Name, Outcome};
 use keeper_core::{Arm, Keeper, MemKeeper, StoreFault};
 use std::alloc::Global;
@@ -49,6 +56,36 @@ impl<K> Model for Ledger<K> {
 }
 
 impl<K: Keeper> Ledger<K> {
+    /// Opens a ledger over a keeper. Empty tables are filled by one commit; other tables must name
+    /// this opening. With every refusal the keeper comes back.
+    pub fn open(alloc: Global, keeper: K, opening: &Opening) -> Result<Ledger<K>, Refused<K>>
+        // What is kept is what is opened.
+        ensures kept { OpensKept (opened_by opening.now) (counts_of result) (K.known keeper)
+            (K.known (kept_by result)) }
+        ensures empty { OpensEmpty (opened_by opening.now) (counts_of result) (K.known keeper)
+            (K.known (kept_by result)) }
+        // By the tables, whatever they are.
+        ensures rows { OpensByRows (opened_by opening.now) (counts_of result) (K.known keeper)
+            (K.known (kept_by result)) }
+        ensures cause { IfErr result (λ refused. OpenCause (K.known refused.keeper).tables
+            refused.fault) }
+        ensures named { IfOk result (λ ledger. (ledger.name ≡ opening.now.name)
+            × (ledger.house ≡ id_of_set opening.now.genesis)) }
+    {
+        let mut keeper = keeper;
+        match open_over(alloc, &mut keeper, opening) {
+            Ok(counts) => Ok(Ledger {
+                alloc,
+                keeper,
+                name: opening.name,
+                house: set_id(&opening.genesis),
+                entries: counts.entries,
+                acts: counts.acts,
+            }),
+            Err(fault) => Err(Refused { keeper, fault }),
+        }
+    }
+
     /// Gives the keeper back as it is.
     pub fn close(self) -> K
         ensures { result ≡ self.keeper }

@@ -2,7 +2,7 @@
 //!
 //! - `ledger`: ledgers; `asking`: questions to them
 //! - `opening`: openings; `form_row`: the row by which tables name theirs; `opens`: opening a ledger
-//!   over tables
+//!   over tables; `refused`: a keeper that comes back
 //! - `ask_fault`, `open_fault`: why a ledger answers no question, and why it isn't opened
 #![tactic(auto)]
 
@@ -13,9 +13,11 @@ pub mod ledger;
 pub mod open_fault;
 pub mod opening;
 mod opens;
+pub mod refused;
 
 pub use ask_fault::AskFault;
 pub use ledger::Ledger;
 pub use ledger_acts::LedgerFault;
 pub use open_fault::OpenFault;
 pub use opening::{OpenRow, Opening};
+pub use refused::Refused;

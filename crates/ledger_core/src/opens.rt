@@ -8,12 +8,13 @@ ghost use Rattle.ledger_rows.specs.Asking.{Asks};
 ghost use Rattle.ledger_rows.specs.RowKeys.{entry_tab, entry_key};
 ghost use Rattle.ledger_rows.specs.RowReading.{LacksForm};
 ghost use Rattle.ledger_core.specs.OpenFaults.{of_open_fault};
-ghost use Rattle.ledger_core.specs.Opens.{most_entries, CountsEntries, AreCounts, deals_refusal, counting_looks, opening_changes, begin_changes, no_counts, kept_refusal, OpensGood, OpensByRows, IsStoreOnly, OpenCause};
-ghost use Rattle.ledger_core.specs.Openings.{opened_by};
+ghost use Rattle.ledger_core.specs.Opens.{most_entries, CountsEntries, AreCounts, deals_refusal, counting_looks, opening_changes, begin_changes, no_counts, kept_refusal, OpensGood, OpensByRows, OpensKept, OpensEmpty, IsStoreOnly, OpenCause};
+ghost use Rattle.ledger_core.specs.Openings.{AreSpelled, book_rows, opened_by};
 
+use crate::asking::wide;
 use crate::form_row::{FORM_KEY, FORM_TAB, FormRow};
 use crate::open_fault::OpenFault;
-use crate::opening::{Opening, book_rows};
+use crate::opening::{OpenRow, Opening, book_rows};
 use dh_base::{Id, Name, NoMemory, put_id, put_u8};
 use escrow_book::first_bad_row;
 use keeper_core::{Batch, Keeper, StoreFault};
@@ -175,4 +176,36 @@ pub(crate) fn open_by_rows<K: Keeper>(
     }
     let identity = opening.identity(alloc)?;
     open_good(alloc, keeper, &identity, &rows)
+}
+
+/// Accounts have 32 bytes, and assets are names.
+fn all_spelled(rows: &[OpenRow])
+    ensures { AreSpelled (book_rows rows.now) }
+{
+    match rows.split_first() {
+        None => {}
+        Some((first, rest)) => {
+            wide(&first.account);
+            let _text = first.asset.as_bytes();
+            all_spelled(rest)
+        }
+    }
+}
+
+/// Opens a ledger over the tables of its keeper.
+pub(crate) fn open_over<K: Keeper>(
+    alloc: Global,
+    keeper: &mut K,
+    opening: &Opening,
+) -> Result<Counts, OpenFault>
+    ensures rows { OpensByRows (opened_by opening.now) result
+        (K.known keeper.old) (K.known keeper.new) }
+    ensures kept { OpensKept (opened_by opening.now) result
+        (K.known keeper.old) (K.known keeper.new) }
+    ensures empty { OpensEmpty (opened_by opening.now) result
+        (K.known keeper.old) (K.known keeper.new) }
+    ensures cause { IfErr result (OpenCause (K.known keeper.new).tables) }
+{
+    all_spelled(opening.rows.as_slice());
+    open_by_rows(alloc, keeper, opening)
 }
