@@ -1,7 +1,6 @@
 -- Signatures of which none is at fault vouch, where the texts of rings are bytes.
-use Rattle.std.proofs.Common.{◌≡◌, ℕ, ◌+◌, ◌*◌, ◌<◌, ◌≤◌, ◌↔◌, Bool, true, false, not, cond, nat_le, ltb, List, [], ◌∷◌, ◌++◌, length, Option, Some, None, Result, Ok, Err, refl, sym, ap, subst, ◌∙◌, arith}
+use Rattle.std.proofs.Common.{◌≡◌, ℕ, ◌↔◌, Bool, true, false, not, cond, nat_le, ltb, List, [], ◌∷◌, ◌++◌, length, Option, Some, None, Result, Ok, Err, refl, sym, ap, subst, ◌∙◌}
 use Rattle.std.specs.List.{AllByRecursion}
-use Rattle.std.specs.Option.{option_or}
 use Rattle.std.specs.Str.{bytes_eq}
 use Rattle.std.proofs.lemmas.Bool.{leb-false, ltb-false, le-ltb}
 use Rattle.std.proofs.lemmas.Slice.Eq.{bytes_eq-Decides}
@@ -19,7 +18,7 @@ use Rattle.key_ring.specs.Saying.{Says}
 use Rattle.key_ring.specs.Answering.{is_signed_by, said_with, said_of}
 use Rattle.key_ring.proofs.RingTexts.{text-ring_of}
 use Rattle.cert_core.specs.declared.quorum_fault.QuorumFault.{QuorumFault}
-use Rattle.cert_core.specs.declared.quorum_fault.QuorumFault.TheVariants.{SeatOutside, SeatTwice, BadEnvelope, NotItsRing, OtherText, TooFew}
+use Rattle.cert_core.specs.declared.quorum_fault.QuorumFault.TheVariants.{SeatOutside, SeatTwice, NotItsRing, OtherText, TooFew}
 use Rattle.cert_core.specs.declared.seat_sig.SeatSig.{SeatSig}
 use Rattle.cert_core.specs.Sets.{SetTold}
 use Rattle.cert_core.specs.Quorums.{account_of, quorum_size, SaysAs, Vouches, IsQuorum, HaveByteRings, has_seat, said_fault, sig_fault, first_fault, too_few, quorum_fault, quorum_of, or_counted}

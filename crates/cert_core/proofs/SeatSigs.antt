@@ -1,19 +1,16 @@
 -- Where no signature is at fault, the seats are different and inside, and a quorum has no fault.
-use Rattle.std.proofs.Common.{◌≡◌, ℕ, ◌+◌, ◌*◌, ◌<◌, ◌≤◌, Bool, true, false, not, ◌||◌, nat_le, nat_lt, eqb, cond, List, [], ◌∷◌, ◌++◌, length, map, take, drop, get_or, suc, Option, Some, None, IfNone, Result, Ok, Err, refl, sym, ap, subst, ◌∙◌, arith}
+use Rattle.std.proofs.Common.{◌≡◌, ℕ, ◌+◌, ◌<◌, ◌≤◌, Bool, true, false, ◌||◌, nat_le, eqb, List, [], ◌∷◌, ◌++◌, length, take, drop, get_or, suc, Option, Some, None, IfNone, Ok, refl, sym, ap, subst, ◌∙◌, arith}
 use Rattle.std.specs.List.{list_any, AllByRecursion, IsDistinct}
 use Rattle.std.specs.Option.{option_or, is_some}
 use Rattle.std.specs.Str.{bytes_eq}
 use Rattle.std.proofs.lemmas.Bool.{lt-leb, leb-false, eqb-true}
 use Rattle.std.proofs.Math.Seq.{take-suc}
-use Rattle.std.proofs.lemmas.List.{length-map, at_drop_more, take_all, drop_all}
+use Rattle.std.proofs.lemmas.List.{length-map, at_drop_more, drop_all}
 use Rattle.std.proofs.lemmas.List.Folds.{list_any-append}
 use Rattle.std.proofs.lemmas.Map.Steps.{length-le_from_distinct_below}
 use Rattle.std.proofs.lemmas.Slice.Eq.{bytes_eq-Decides}
 use Rattle.dh_base.specs.declared.id.Id.{Id}
-use Rattle.dh_base.specs.Ids.{same_id}
 use Rattle.dh_base.proofs.SameIds.{same_id-self}
-use Rattle.key_ring.specs.declared.envelope.Envelope.{Envelope}
-use Rattle.key_ring.specs.declared.env_fault.EnvFault.{EnvFault}
 use Rattle.key_ring.specs.declared.said.Said.{Said}
 use Rattle.key_ring.specs.Saying.{Says}
 use Rattle.key_ring.specs.Answering.{said_of}
@@ -21,7 +18,7 @@ use Rattle.key_ring.proofs.Checked.{answer_is}
 use Rattle.cert_core.specs.declared.quorum_fault.QuorumFault.{QuorumFault}
 use Rattle.cert_core.specs.declared.quorum_fault.QuorumFault.TheVariants.{SeatOutside, SeatTwice}
 use Rattle.cert_core.specs.declared.seat_sig.SeatSig.{SeatSig}
-use Rattle.cert_core.specs.Sets.{SetTold, HasSeats}
+use Rattle.cert_core.specs.Sets.{SetTold}
 use Rattle.cert_core.specs.Quorums.{account_of, seats_of, quorum_size, SaysAs, Vouches, IsQuorum, has_seat, said_fault, sig_fault, first_fault}
 
 -- none of them has a fault, and none of the later ones

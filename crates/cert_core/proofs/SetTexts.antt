@@ -1,19 +1,19 @@
 -- The text of a set is read as that set, and no other bytes are.
-use Rattle.std.proofs.Common.{◌≡◌, ℕ, ◌+◌, ◌*◌, ◌<◌, ◌≤◌, ◌^◌, ◌==◌, ◌↔◌, ltb, not, Bool, true, false, cond, List, [], ◌∷◌, ◌++◌, length, take, drop, Option, Some, None, Result, Ok, Err, refl, sym, ap, subst, ◌∙◌, arith}
+use Rattle.std.proofs.Common.{◌≡◌, ℕ, ◌+◌, ◌*◌, ◌==◌, ◌↔◌, ltb, not, Bool, true, false, cond, List, [], ◌++◌, length, take, drop, Option, Some, None, Result, Ok, Err, refl, sym, ap, subst, ◌∙◌, arith}
 use Rattle.std.specs.Prelude.{IfOk}
-use Rattle.std.specs.List.{flat_map, AllByRecursion}
+use Rattle.std.specs.List.{flat_map}
 use Rattle.std.specs.Int.{w16, w32, from_be_bytes, to_be_bytes}
 use Rattle.std.specs.Str.{bytes_eq}
 use Rattle.std.proofs.lemmas.Bool.{ltb-false, le-ltb, eqb-true}
 use Rattle.std.proofs.lemmas.Slice.Eq.{bytes_eq-Decides}
-use Rattle.std.proofs.lemmas.List.{length-append, length-take-le, length-drop, drop-drop, take-append-drop}
+use Rattle.std.proofs.lemmas.List.{length-take-le, length-drop, drop-drop, take-append-drop}
 use Rattle.dh_base.specs.declared.base_fault.BaseFault.{BaseFault}
 use Rattle.dh_base.specs.Fields.{◌>>=◌, AreBytes, StandsAt, bytes_at}
 use Rattle.dh_base.specs.Formats.{or_fault}
 use Rattle.dh_base.proofs.Fields.{wide16, wide32, bind_ok, stands-bytes, bytes-stands, AreBytes-take, AreBytes-drop}
 use Rattle.cert_core.specs.declared.set_fault.SetFault.{SetFault}
-use Rattle.cert_core.specs.declared.set_fault.SetFault.TheVariants.{BadTag, BadF, BadLength, SeatTwice}
-use Rattle.cert_core.specs.Sets.{SetTold, set_tag, set_text, id_bytes, HasSeats, IsSet}
+use Rattle.cert_core.specs.declared.set_fault.SetFault.TheVariants.{BadTag, BadF, BadLength}
+use Rattle.cert_core.specs.Sets.{SetTold, set_tag, set_text, id_bytes, IsSet}
 use Rattle.cert_core.specs.SetReading.{accounts_in, first_twice, or_twice, set_behind_tag, set_of}
 use Rattle.cert_core.proofs.Accounts.{length-accounts_in, wide-accounts_in, spelled-accounts_in, length-accounts, accounts_in-spelled, new-none_twice, none_twice-new}
 

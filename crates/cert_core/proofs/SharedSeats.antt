@@ -1,12 +1,11 @@
 -- Two quorums of one set share f + 1 seats, and so one that complies.
-use Rattle.std.proofs.Common.{◌≡◌, ℕ, zero, suc, ◌+◌, ◌*◌, ◌<◌, ◌≤◌, Bool, true, false, IsTrue, cond, not, ◌&&◌, ◌||◌, eqb, List, [], ◌∷◌, length, Contains, refl, ap, sym, ◌∙◌, ⊎_elim, arith}
-use Rattle.std.specs.List.{list_any, IsDistinct, AllByRecursion}
+use Rattle.std.proofs.Common.{◌≡◌, ℕ, zero, suc, ◌+◌, ◌<◌, ◌≤◌, Bool, true, false, cond, not, ◌&&◌, ◌||◌, eqb, List, [], ◌∷◌, length, Contains, refl, ap, sym, ◌∙◌, ⊎_elim, arith}
+use Rattle.std.specs.List.{IsDistinct, AllByRecursion}
 use Rattle.std.proofs.lemmas.Bool.{eqb-true, eq-eqb, ne_eqb, and_parts, cases_eq}
 use Rattle.cert_core.specs.declared.seat_sig.SeatSig.{SeatSig}
 use Rattle.cert_core.specs.Sets.{SetTold, HasSeats}
 use Rattle.cert_core.specs.Quorums.{IsQuorum, has_seat, seats_of}
 use Rattle.cert_core.specs.SharedSeats.{count_seats, signs_both, FewDeviate, SharedSeat}
-use Rattle.std.proofs.lemmas.List.{length-map}
 
 -- one test passes, the other, or both do
 two_counts : (a b : ℕ → Bool) (n : ℕ) → count_seats a n + count_seats b n ≤ n + count_seats (λ s. a s && b s) n

@@ -1,5 +1,5 @@
 -- What the faults of quorums tell.
-use Rattle.std.specs.Prelude.{List, [], ◌∷◌, ◌++◌, codes}
+use Rattle.std.specs.Prelude.{List, [], ◌∷◌, codes}
 use Rattle.dh_base.specs.Refusals.{Told, told_of, field_of}
 use Rattle.dh_base.specs.declared.refusal.FieldValue.TheVariants.{Number}
 use Rattle.key_ring.specs.EnvFaults.{env_fault_told}

@@ -1,8 +1,7 @@
-use Rattle.std.proofs.Common.{◌≡◌, length, sym, subst, ◌∙◌, arith}
+use Rattle.std.proofs.Common.{sym, subst, ◌∙◌, arith}
 use Rattle.std.specs.List.{AllByRecursion}
 use Rattle.std.proofs.lemmas.List.{take_all}
 use Rattle.cert_core.specs.Quorums.{Vouches}
-use Rattle.cert_core.specs.declared.seat_sig.SeatSig.{SeatSig}
 use Rattle.cert_core.proofs.SeatSigs.{few_seats, fault_there, fault_later, vouched_more, none_left}
 use Rattle.cert_core.proofs.quorums.first_fault.Goals as goal
 

@@ -1,4 +1,4 @@
-use Rattle.std.proofs.Common.{◌+◌, ◌*◌, [], take, sym, ◌∙◌}
+use Rattle.std.proofs.Common.{◌+◌, ◌*◌, [], take, sym}
 use Rattle.cert_core.proofs.Accounts.{new-none_twice}
 use Rattle.cert_core.proofs.set_text.read_behind_tag.Goals as goal
 
