@@ -1,5 +1,5 @@
 -- A claim without a broken part certifies, where the texts of rings are bytes.
-use Rattle.std.proofs.Common.{◌≡◌, ℕ, suc, ◌↔◌, Bool, true, not, cond, List, [], ◌∷◌, length, Result, Ok, Err, refl, sym, ap, subst, ◌∙◌}
+use Rattle.std.proofs.Common.{◌≡◌, ℕ, suc, ◌↔◌, not, cond, List, [], ◌∷◌, Result, Ok, Err, sym, ap, subst, ◌∙◌}
 use Rattle.std.specs.List.{AllByRecursion}
 use Rattle.dh_base.specs.declared.id.Id.{Id}
 use Rattle.dh_base.specs.Fields.{◌>>=◌}
@@ -13,7 +13,7 @@ use Rattle.claim_core.specs.declared.link.Link.{Link}
 use Rattle.claim_core.specs.declared.claim.Claim.{Claim}
 use Rattle.claim_core.specs.declared.certificate.Certified.{Certified}
 use Rattle.claim_core.specs.declared.claim_fault.ClaimFault.{ClaimFault}
-use Rattle.claim_core.specs.declared.claim_fault.ClaimFault.TheVariants.{BadChain, WrongHead, BadQuorum}
+use Rattle.claim_core.specs.declared.claim_fault.ClaimFault.TheVariants.{BadChain, BadQuorum}
 use Rattle.claim_core.specs.declared.link_fault.LinkFault.{LinkFault}
 use Rattle.claim_core.specs.declared.link_fault.LinkFault.TheVariants.{HeadNotOnPath, BadQuorum as BadLinkQuorum}
 use Rattle.claim_core.specs.Chains.{handed_over, HandsOver, IsOnPath, ChainLeadsTo}

@@ -1,5 +1,5 @@
 -- Links and claims are taken exactly where they stand.
-use Rattle.std.proofs.Common.{◌≡◌, ℕ, ◌+◌, ◌<◌, ◌≤◌, ◌^◌, ◌==◌, ◌↔◌, Bool, true, false, not, cond, ltb, nat_lt, List, [], ◌∷◌, ◌++◌, length, Result, Ok, Err, refl, sym, ap, subst, ◌∙◌, arith}
+use Rattle.std.proofs.Common.{◌≡◌, ℕ, ◌+◌, ◌<◌, ◌≤◌, ◌^◌, ◌==◌, ◌↔◌, Bool, true, false, not, cond, nat_lt, List, ◌++◌, length, Result, Ok, Err, refl, sym, ap, subst, ◌∙◌, arith}
 use Rattle.std.specs.Int.{Width, w16, w32, byte_len, to_be_bytes}
 use Rattle.std.specs.Str.{bytes_eq}
 use Rattle.std.proofs.lemmas.Bool.{ltb-false, le-ltb, eqb-true, eq-eqb}
@@ -8,13 +8,13 @@ use Rattle.std.proofs.lemmas.Slice.Eq.{bytes_eq-Decides}
 use Rattle.dh_base.specs.declared.base_fault.BaseFault.{BaseFault}
 use Rattle.dh_base.specs.declared.id.Id.{Id}
 use Rattle.dh_base.specs.Fields.{◌>>=◌, AreBytes, StandsAt, bytes_at}
-use Rattle.dh_base.specs.Formats.{IsSpelledAt, TakesWhatIsSpelled, IsSpelledAfter, IsMadeOf, SpelledBy, SpelledWithin, NumberSpelled, IdSpelled, TextSpelled, ListFits, next_number, next_id, next_text, next_values, or_fault, text_field, list_text, unless_out_of_range, whole_of}
+use Rattle.dh_base.specs.Formats.{IsSpelledAt, TakesWhatIsSpelled, IsSpelledAfter, IsMadeOf, SpelledBy, SpelledWithin, NumberSpelled, IdSpelled, TextSpelled, ListFits, next_number, next_id, next_text, or_fault, text_field, list_text}
 use Rattle.dh_base.proofs.Fields.{IsWide, wide16, wide32, bind_ok, stands-bytes, bytes-stands, StandsAt-append, StandsAt-parts}
 use Rattle.dh_base.proofs.Formats.{takes-then, takes-made, takes-within, takes-or_fault, takes-same, takes-number, takes-id, takes-text, takes-list, reads-whole}
 use Rattle.key_ring.specs.declared.envelope.Envelope.{Envelope}
 use Rattle.key_ring.specs.declared.env_fault.EnvFault.{EnvFault}
 use Rattle.key_ring.specs.declared.reading.EnvelopeAt.{EnvelopeAt}
-use Rattle.key_ring.specs.EnvelopeTexts.{envelope_text, envelope_from, IsWithinLimits, IsReadAt}
+use Rattle.key_ring.specs.EnvelopeTexts.{envelope_text, envelope_from, IsWithinLimits}
 use Rattle.key_ring.proofs.EnvelopeFields.{stands-envelope, envelope-stands}
 use Rattle.vote_log.specs.Entry.{Entry}
 use Rattle.vote_log.specs.declared.record_fault.RecordFault.{RecordFault}

@@ -1,8 +1,8 @@
 -- Links that lead on have no fault, and a claim that certifies has none.
-use Rattle.std.proofs.Common.{◌≡◌, ℕ, ◌+◌, ◌<◌, ◌≤◌, ◌==◌, suc, Bool, true, false, not, ◌&&◌, cond, ltb, nat_le, List, [], ◌∷◌, length, take, drop, get_or, Result, Ok, Err, IfOk, refl, sym, ap, subst, ◌∙◌, zero, arith}
+use Rattle.std.proofs.Common.{◌≡◌, ℕ, ◌+◌, ◌<◌, ◌≤◌, ◌==◌, suc, Bool, true, false, not, cond, ltb, nat_le, List, [], ◌∷◌, length, take, drop, get_or, Result, Ok, Err, IfOk, refl, sym, ap, subst, ◌∙◌, zero, arith}
 use Rattle.std.specs.List.{AllByRecursion}
 use Rattle.std.proofs.lemmas.Bool.{le-leb, leb-true, le-ltb, eq-eqb, eqb-true, and_parts}
-use Rattle.std.proofs.lemmas.List.{at_drop_more, drop_all, take_all}
+use Rattle.std.proofs.lemmas.List.{at_drop_more, drop_all}
 use Rattle.dh_base.specs.declared.id.Id.{Id}
 use Rattle.dh_base.specs.Ids.{same_id}
 use Rattle.dh_base.specs.Fields.{◌>>=◌}
@@ -13,7 +13,6 @@ use Rattle.vote_log.specs.Entry.{Entry}
 use Rattle.vote_log.specs.Heads.{head_after}
 use Rattle.cert_core.specs.Sets.{SetTold, id_of_set}
 use Rattle.cert_core.specs.SetReading.{set_of}
-
 use Rattle.cert_core.specs.SeatTexts.{handover_text, prefix_text}
 use Rattle.cert_core.specs.Quorums.{IsQuorum, quorum_size, quorum_of}
 use Rattle.cert_core.specs.declared.seat_sig.SeatSig.{SeatSig}
@@ -26,7 +25,7 @@ use Rattle.claim_core.specs.declared.claim_fault.ClaimFault.TheVariants.{BadChai
 use Rattle.claim_core.specs.declared.link_fault.LinkFault.{LinkFault}
 use Rattle.claim_core.specs.declared.link_fault.LinkFault.TheVariants.{BadSet, WrongEpoch}
 use Rattle.claim_core.specs.Chains.{handed_over, HandsOver, IsOnPath, ChainLeadsTo}
-use Rattle.claim_core.specs.Certificates.{vouched_for, IsVouchedFor, Certifies, certified_by}
+use Rattle.claim_core.specs.Certificates.{vouched_for, Certifies, certified_by}
 use Rattle.claim_core.specs.FirstBroken.{is_on_path, named_set, next_set, last_set, certified_for, certified_of}
 
 counted : (set : SetTold) (text : List ℕ) (sigs : List SeatSig) → IsQuorum set text sigs → quorum_of set text sigs ≡ Ok (length sigs)

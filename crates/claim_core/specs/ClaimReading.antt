@@ -1,6 +1,6 @@
 -- How links and claims are read from bytes, and the first field at fault: where it begins that is
 -- cut, out of range or left over.
-use Rattle.std.specs.Prelude.{ℕ, ◌≡◌, ◌+◌, ◌==◌, Bool, not, nat_lt, if◌then◌else◌, List, Result, Ok, Err}
+use Rattle.std.specs.Prelude.{ℕ, ◌≡◌, ◌+◌, ◌==◌, not, nat_lt, if◌then◌else◌, List, Result, Ok, Err}
 use Rattle.std.specs.Int.{Width, w16, w32}
 use Rattle.std.specs.Str.{bytes_eq}
 use Rattle.dh_base.specs.declared.base_fault.BaseFault.{BaseFault}

@@ -1,5 +1,5 @@
 -- The limits of claims.
-use Rattle.std.specs.Prelude.{ℕ, ◌<◌, ◌≤◌, ◌^◌, List, length}
+use Rattle.std.specs.Prelude.{ℕ, ◌<◌, ◌≤◌, ◌^◌, length}
 use Rattle.std.specs.List.{AllByRecursion}
 use Rattle.claim_core.specs.declared.link.Link.{Link}
 use Rattle.claim_core.specs.declared.claim.Claim.{Claim}

@@ -1,5 +1,5 @@
 -- How far a walk along records has come.
-use Rattle.std.specs.Prelude.{ℕ, ◌≡◌, ◌≤◌, List, length, take}
+use Rattle.std.specs.Prelude.{◌≡◌, ◌≤◌, List, length, take}
 use Rattle.dh_base.specs.declared.id.Id.{Id}
 use Rattle.vote_log.specs.Entry.{Entry}
 use Rattle.vote_log.specs.Heads.{head_after}

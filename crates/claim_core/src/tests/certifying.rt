@@ -78,7 +78,11 @@ fn link_to(rt: &impl Abort, alloc: Global, epoch: u8, len: u8) -> Result<Link, F
     let own = set_id(&set_of(alloc, epoch - 1)?);
     let next = set_of(alloc, epoch)?;
     let len = u32::from(len);
-    let sigs = said(alloc, epoch - 1, &handover_text(&own, len, &head, &set_id(&next)))?;
+    let sigs = said(
+        alloc,
+        epoch - 1,
+        &handover_text(&own, len, &head, &set_id(&next)),
+    )?;
     let set_text = write_set(alloc, &next)?;
     assert!(rt; set_text.len() < 1000);
     Ok(Link {
@@ -155,7 +159,10 @@ fn a_broken_link_is_named(rt: HostRuntime) -> Result<(), Fail> {
     let mut link = link_to(&rt, alloc, 1, 1)?;
     link.set_text = List::from_vec(Vec::from_slice(alloc, b"set")?);
     let fault = SetFault::BadTag;
-    assert_eq!(rt; link_fault(alloc, link)?, bad_chain(LinkFault::BadSet { fault }));
+    assert_eq!(rt;
+        link_fault(alloc, link)?,
+        bad_chain(LinkFault::BadSet { fault })
+    );
     let skipping = link_to(&rt, alloc, 2, 1)?;
     assert_eq!(rt;
         link_fault(alloc, skipping)?,
@@ -166,11 +173,17 @@ fn a_broken_link_is_named(rt: HostRuntime) -> Result<(), Fail> {
     );
     let mut link = link_to(&rt, alloc, 1, 2)?;
     link.len = 3;
-    assert_eq!(rt; link_fault(alloc, link)?, bad_chain(LinkFault::HeadNotOnPath { len: 3 }));
+    assert_eq!(rt;
+        link_fault(alloc, link)?,
+        bad_chain(LinkFault::HeadNotOnPath { len: 3 })
+    );
     // The head of both records is not that of the first one.
     let mut link = link_to(&rt, alloc, 1, 2)?;
     link.len = 1;
-    assert_eq!(rt; link_fault(alloc, link)?, bad_chain(LinkFault::HeadNotOnPath { len: 1 }));
+    assert_eq!(rt;
+        link_fault(alloc, link)?,
+        bad_chain(LinkFault::HeadNotOnPath { len: 1 })
+    );
     Ok(())
 }
 
@@ -180,7 +193,10 @@ fn the_set_before_signs_a_link(rt: HostRuntime) -> Result<(), Fail> {
     let mut link = link_to(&rt, alloc, 1, 1)?;
     link.sigs = said(alloc, 1, b"handed over")?;
     let fault = QuorumFault::NotItsRing { seat: 0 };
-    assert_eq!(rt; link_fault(alloc, link)?, bad_chain(LinkFault::BadQuorum { fault }));
+    assert_eq!(rt;
+        link_fault(alloc, link)?,
+        bad_chain(LinkFault::BadQuorum { fault })
+    );
     Ok(())
 }
 

@@ -64,12 +64,7 @@ fn claim_text(alloc: Global, links: u8) -> Result<Vec<u8>, Fail> {
 }
 
 /// The claim of so many links has a text of that digest, is read, and has the same text again.
-fn goes_through(
-    rt: &impl Abort,
-    alloc: Global,
-    links: u8,
-    expected: [u8; 32],
-) -> Result<(), Fail> {
+fn goes_through(rt: &impl Abort, alloc: Global, links: u8, expected: [u8; 32]) -> Result<(), Fail> {
     let text = claim_text(alloc, links)?;
     assert_eq!(rt; digest(&text), Id(expected));
     assert!(rt; text.len() < 20000);

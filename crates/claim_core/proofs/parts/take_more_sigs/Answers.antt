@@ -1,4 +1,4 @@
-use Rattle.std.proofs.Common.{◌≡◌, ◌+◌, List, Err, sym, ◌∙◌, subst, rules, arith}
+use Rattle.std.proofs.Common.{◌≡◌, ◌+◌, List, Err, sym, subst, rules, arith}
 use Rattle.cert_core.specs.declared.seat_sig.SeatSig.{SeatSig}
 use Rattle.claim_core.specs.ClaimReading.{sig_from}
 use Rattle.claim_core.proofs.Listed.{AreTaken, gives_err, more}

@@ -1,4 +1,4 @@
-use Rattle.std.proofs.Common.{◌≡◌, ◌+◌, List, Err, sym, ◌∙◌, subst, rules, arith}
+use Rattle.std.proofs.Common.{◌≡◌, ◌+◌, List, Err, sym, subst, rules, arith}
 use Rattle.claim_core.specs.declared.link.Link.{Link}
 use Rattle.claim_core.specs.ClaimReading.{link_from}
 use Rattle.claim_core.proofs.Listed.{AreTaken, gives_err, more}
