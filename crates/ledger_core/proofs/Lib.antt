@@ -5,3 +5,4 @@ pub mod Halving
 pub mod OpenCalls
 pub mod Beginning
 pub mod KeptOpened
+pub mod Submitting

@@ -1,6 +1,6 @@
 //! Ledgers.
 
-ghost use Rattle.std.specs.Prelude.{◌≡◌, None, IfErr, IfOk, Some};
+ghost use Rattle.std.specs.Prelude.{◌≡◌, ◌<◌, ◌≤◌, ◌+◌, ◌-◌, ◌^◌, length, None, IfErr, IfOk, OnErr, Some};
 ghost use Rattle.std.specs.Result.{IsErrOf};
 ghost use Rattle.escrow_book.specs.History.{free_of, settlement_of};
 ghost use Rattle.keeper_core.specs.Knowing.{FailsNext};
@@ -12,11 +12,14 @@ ghost use Rattle.ledger_rows.specs.RowKeys.{free_tab};
 ghost use Rattle.ledger_rows.specs.RowReading.{LacksForm, deal_said};
 ghost use Rattle.ledger_rows.specs.Scanning.{scan_refusal, amount_at, some_of, AreInOrder, AreAmounts};
 ghost use Rattle.cert_core.specs.Sets.{id_of_set};
+ghost use Rattle.ledger_acts.specs.Steps.{SubmitsByRows};
 ghost use Rattle.ledger_core.specs.AskFaults.{of_ask_fault};
 ghost use Rattle.ledger_core.specs.Openings.{opened_by};
 ghost use Rattle.ledger_core.specs.Opens.{OpensByRows, OpensKept, OpensEmpty, OpenCause, counts_of, kept_by};
 ghost use Rattle.ledger_core.specs.Questions.{TellsBy, unknown_deal, settlement_refusal, outcome_of, rows_beside, AskCause};
+ghost use Rattle.ledger_core.specs.Submits.{SubmitsFrom, number_in};
 
+use crate::act_reply::ActReply;
 use crate::ask_fault::AskFault;
 use crate::asking::{settlement_at, spendable, wide};
 use crate::opening::Opening;
@@ -26,6 +29,8 @@ use act_text::HeldRow;
 use cert_core::set_id;
 use dh_base::{Id, List, Name, Outcome};
 use keeper_core::{Arm, Keeper, MemKeeper, StoreFault};
+use key_ring::Envelope;
+use ledger_acts::{LedgerFault, LedgerId, Place, submit};
 use std::alloc::Global;
 use std::marker::Model;
 
@@ -99,6 +104,57 @@ impl<K: Keeper> Ledger<K> {
         ensures { result.now ≡ self.now.keeper }
     {
         &self.keeper
+    }
+
+    /// Where the next entry would stand.
+    fn next_place(&self) -> Place
+        ensures acts { result.acts ≡ self.now.acts }
+        ensures number { self.now.entries < 2 ^ 64 - 1 → result.number ≡ self.now.entries + 1 }
+    {
+        Place {
+            number: self.entries.saturating_add(1),
+            acts: self.acts,
+        }
+    }
+
+    /// Notes that the act is the entry of that number. A new entry is one act more.
+    fn note_act(&mut self, at: u64)
+        ensures new { self.old.entries < at → self.old.acts < 2 ^ 32 - 1
+            → self.new ≡ record self.old { entries = at; acts = self.old.acts + 1 } }
+        ensures repeated { at ≤ self.old.entries → self.new ≡ self.old }
+        ensures named { (self.new.name ≡ self.old.name) × (self.new.house ≡ self.old.house)
+            × (self.new.keeper ≡ self.old.keeper) }
+    {
+        if self.entries < at {
+            self.entries = at;
+            self.acts = self.acts.saturating_add(1);
+        }
+    }
+
+    /// Takes the act of an envelope. The reply tells the number of its entry; an act that is
+    /// repeated has one entry, and one number.
+    pub fn submit(&mut self, env: &Envelope) -> Result<ActReply, LedgerFault>
+        requires { length env.now.message < 2 ^ 32 }
+        ensures step { SubmitsFrom self.old self.new env.now result
+            (K.known self.old.keeper) (K.known self.new.keeper) }
+        // Whatever the tables stand for.
+        ensures rows { SubmitsByRows env.now (number_in result)
+            (K.known self.old.keeper) (K.known self.new.keeper) }
+        ensures named { (self.new.name ≡ self.old.name) × (self.new.house ≡ self.old.house) }
+        ensures rest { OnErr result (self.new ≡ record self.old { keeper = self.new.keeper }) }
+    {
+        let ledger = LedgerId {
+            name: self.name,
+            house: self.house,
+        };
+        let place = self.next_place();
+        match submit(self.alloc, &mut self.keeper, &ledger, &place, env) {
+            Ok(at) => {
+                self.note_act(at);
+                Ok(ActReply::Done { at })
+            }
+            Err(fault) => Err(fault),
+        }
     }
 
     /// How a deal has ended here, if it has.

@@ -1,11 +1,12 @@
 //! Ledgers: they keep assets for parties, and take acts in signed envelopes, each once.
 //!
-//! - `ledger`: ledgers; `asking`: questions to them
+//! - `ledger`: ledgers; `act_reply`: what they reply to acts; `asking`: questions to them
 //! - `opening`: openings; `form_row`: the row by which tables name theirs; `opens`: opening a ledger
 //!   over tables; `refused`: a keeper that comes back
 //! - `ask_fault`, `open_fault`: why a ledger answers no question, and why it isn't opened
 #![tactic(auto)]
 
+pub mod act_reply;
 pub mod ask_fault;
 mod asking;
 mod form_row;
@@ -15,6 +16,7 @@ pub mod opening;
 mod opens;
 pub mod refused;
 
+pub use act_reply::ActReply;
 pub use ask_fault::AskFault;
 pub use ledger::Ledger;
 pub use ledger_acts::LedgerFault;
