@@ -27,7 +27,7 @@ use Rattle.ledger_acts.specs.LedgerState.{IsState}
 use Rattle.ledger_acts.specs.Once.{reused, by_key, number_by, entries_by}
 use Rattle.ledger_acts.specs.Movements.{book_refusal, movement_of, head_refusal}
 use Rattle.ledger_acts.specs.Steps.{IsNext, refusal_in, Replies}
-use Rattle.ledger_acts.proofs.MovementSteps.{moved_step}
+use Rattle.ledger_acts.proofs.MovementSteps.{moved_step, some_is}
 
 -- ---- steps, with what they answer said otherwise
 
@@ -110,13 +110,6 @@ one_two : (a b rest : Option LedgerFault) → option_or (option_or a (option_or 
 one_two None None rest = refl
 one_two None (Some fault) rest = refl
 one_two (Some fault) b rest = refl
-
-some_is : {A : Type 0} (x y : A) → Some x ≡ Some y → x ≡ y
-some_is {A} x y e = ap from_some e
-  where
-    from_some : Option A → A
-    from_some None = x
-    from_some (Some z) = z
 
 module _ (opened : Opened) (entries : List Entry) (account : Id) (ledger : LedgerId) (place : Place) (next : IsNext opened entries ledger place) where
   abbrev HeadedIs : Asked → Movement → Type 0

@@ -64,3 +64,7 @@ pub other_first : (h : History) (d p q : Id) (parties : List Id) (rest : Option 
 other_first h d p q parties rest known into out =
     ap (λ (o : Option (List Id)). option_or (unknown_by o) (option_or (stranger_by p o) (option_or (stranger_by q o) rest))) known
     ∙ (λ i. option_or (if into i then None else Some (NotAParty p)) (option_or (if out i then None else Some (NotAParty q)) rest))
+
+-- an accepted change isn't refused
+pub clash : {A : Type 0} (refusal : Option BookFault) (fault : BookFault) → refusal ≡ Some fault → refusal ≡ None → A
+clash refusal fault some none = absurd (let e : Some fault ≡ None = sym some ∙ none in cc)

@@ -31,11 +31,7 @@ use Rattle.deal_core.specs.Drafts.{parties_in}
 use Rattle.ledger_acts.specs.declared.movement.Movement.{Movement}
 use Rattle.ledger_acts.specs.declared.movement.Movement.TheVariants.{Escrow}
 use Rattle.ledger_acts.specs.Movements.{hold_row, escrow_rows}
-use Rattle.ledger_acts.proofs.Agreeing.{Agrees, same_bytes, and_true, GoodParties, good_parties, unknown_first, stranger_first}
-
--- an accepted change isn't refused
-clash : {A : Type 0} (refusal : Option BookFault) (fault : BookFault) → refusal ≡ Some fault → refusal ≡ None → A
-clash refusal fault some none = absurd (let e : Some fault ≡ None = sym some ∙ none in cc)
+use Rattle.ledger_acts.proofs.Agreeing.{Agrees, clash, same_bytes, and_true, GoodParties, good_parties, unknown_first, stranger_first}
 
 module _ (h : History) (deal party : Id) (asset : List ℕ) (amount n : ℕ) (held : Held) (reached : IsReached h) (is_n : n ≡ free_of h party asset) (is_held : held ≡ hold_of h deal party asset) (small : (held.commit < 2 ^ 64) × (held.abort < 2 ^ 64)) where
   abbrev movement : Movement

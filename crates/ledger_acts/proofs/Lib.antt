@@ -22,3 +22,4 @@ pub mod MovesOnce
 pub mod RegistersOnce
 pub mod Submits
 pub mod OneMessage
+pub mod Counts

@@ -157,7 +157,7 @@ none_mapped f (Some x) e = absurd cc
 not_full : (acts : ℕ) → full acts ≡ None → acts < most_acts
 not_full acts e = grind (arith, e)
 
-some_is : {A : Type 0} (x y : A) → Some x ≡ Some y → x ≡ y
+pub some_is : {A : Type 0} (x y : A) → Some x ≡ Some y → x ≡ y
 some_is {A} x y e = ap from_some e
   where
     from_some : Option A → A

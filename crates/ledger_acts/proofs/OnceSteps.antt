@@ -51,7 +51,7 @@ first_or_later number bound entries account q first used le later e = go (signed
     go None is found = later found
     go (Some one) is found = signed_below number bound account q first used (omega (arith, le)) (is ∙ found)
 
-used_below : (number bound : ℕ) (entries : List Entry) (account : Id) (q : ℕ) (used : UsedKey) → number + length entries ≤ bound → used_from number entries account q ≡ Some used → IsBelow bound used
+pub used_below : (number bound : ℕ) (entries : List Entry) (account : Id) (q : ℕ) (used : UsedKey) → number + length entries ≤ bound → used_from number entries account q ≡ Some used → IsBelow bound used
 used_below number bound [] account q used le e = absurd cc
 used_below number bound (first ∷ entries) account q used le e =
     first_or_later number bound entries account q first used le (used_below (number + 1) bound entries account q used (omega (arith, le))) e

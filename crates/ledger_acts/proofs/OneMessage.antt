@@ -113,14 +113,14 @@ step_keeps opened entries next env reply (StepSaid account q says steps) = messa
 
 -- ---- an accepted message is kept under its key
 
-ok_is : (one other : ℕ) (a b : Result ℕ LedgerFault) → a ≡ Ok one → b ≡ Ok other → a ≡ b → one ≡ other
+pub ok_is : (one other : ℕ) (a b : Result ℕ LedgerFault) → a ≡ Ok one → b ≡ Ok other → a ≡ b → one ≡ other
 ok_is one other a b is is' e = ap number_or (sym is ∙ e ∙ is')
   where
     number_or : Result ℕ LedgerFault → ℕ
     number_or (Ok n) = n
     number_or (Err fault) = one
 
-kept_is : (used : UsedKey) (message : Id) (number : ℕ) → kept_reply used message ≡ Ok number → used ≡ record { at = number; message = message }
+pub kept_is : (used : UsedKey) (message : Id) (number : ℕ) → kept_reply used message ≡ Ok number → used ≡ record { at = number; message = message }
 kept_is used message number e = go (same_id message used.message) refl e
   where
     go : (same : Bool) → same_id message used.message ≡ same → (if same then Ok used.at else Err (KeyReused used.message)) ≡ Ok number → used ≡ record { at = number; message = message }

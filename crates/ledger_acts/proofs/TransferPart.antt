@@ -34,11 +34,7 @@ use Rattle.deal_core.specs.Drafts.{parties_in}
 use Rattle.ledger_acts.specs.declared.movement.Movement.{Movement}
 use Rattle.ledger_acts.specs.declared.movement.Movement.TheVariants.{Transfer}
 use Rattle.ledger_acts.specs.Movements.{hold_row, transfer_rows}
-use Rattle.ledger_acts.proofs.Agreeing.{Agrees, same_bytes, and_true, and_false, GoodParties, good_parties, unknown_first, stranger_first, other_first}
-
--- an accepted change isn't refused
-clash : {A : Type 0} (refusal : Option BookFault) (fault : BookFault) → refusal ≡ Some fault → refusal ≡ None → A
-clash refusal fault some none = absurd (let e : Some fault ≡ None = sym some ∙ none in cc)
+use Rattle.ledger_acts.proofs.Agreeing.{Agrees, clash, same_bytes, and_true, and_false, GoodParties, good_parties, unknown_first, stranger_first, other_first}
 
 not_greatest : (n : ℕ) → n < greatest_turn → (n == greatest_turn) ≡ false
 not_greatest n lt = ne_eqb n greatest_turn (λ e. omega arith)

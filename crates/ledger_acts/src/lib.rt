@@ -30,4 +30,8 @@ pub use signed::Signed;
 pub use submitting::submit;
 
 #[cfg(test)]
+mod once_tests;
+#[cfg(test)]
 mod registering_tests;
+#[cfg(test)]
+mod submitting_tests;
