@@ -23,3 +23,4 @@ pub mod RegistersOnce
 pub mod Submits
 pub mod OneMessage
 pub mod Counts
+pub mod FewOpen

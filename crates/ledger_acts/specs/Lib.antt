@@ -7,3 +7,4 @@ pub mod Movements
 pub mod Registering
 pub mod Steps
 pub mod Runs
+pub mod FewOpenDeals
