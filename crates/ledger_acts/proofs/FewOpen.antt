@@ -1,5 +1,5 @@
 -- No account has more deals open than the most, whatever a ledger accepts.
-use Rattle.std.proofs.Common.{◌≡◌, ℕ, ◌+◌, ◌<◌, ◌≤◌, nat_le, Bool, true, false, if◌then◌else◌, List, [], ◌∷◌, ◌++◌, Option, Some, None, is_some, Result, Ok, Err, refl, sym, ap, subst, ◌∙◌, append-nil, append_assoc, arith, inl, inr}
+use Rattle.std.proofs.Common.{◌≡◌, ℕ, ◌+◌, ◌<◌, ◌≤◌, Bool, true, false, if◌then◌else◌, List, [], ◌∷◌, ◌++◌, Option, Some, None, is_some, Result, Ok, Err, refl, sym, ap, subst, ◌∙◌, append-nil, append_assoc, arith, inl, inr}
 use Rattle.std.specs.Option.{option_or}
 use Rattle.std.proofs.lemmas.Bool.{cases_Bool}
 use Rattle.dh_base.specs.declared.id.Id.{Id}
@@ -17,7 +17,6 @@ use Rattle.deal_core.specs.Drafts.{parties_in}
 use Rattle.escrow_book.specs.declared.change.Change.{Change}
 use Rattle.escrow_book.specs.declared.change.Change.TheVariants.{Registered, Paid, Escrowed, Transferred, Settled}
 use Rattle.escrow_book.specs.History.{History, with_change, settlement, settlement_of, is_known}
-use Rattle.escrow_book.specs.Reached.{registered}
 use Rattle.escrow_book.proofs.Lookups.{settlement_push}
 use Rattle.key_ring.specs.declared.envelope.Envelope.{Envelope}
 use Rattle.ledger_rows.specs.declared.entry.Entry.{Entry}
@@ -28,8 +27,7 @@ use Rattle.ledger_rows.specs.OpenDeals.{deal_of, deal_by, is_new_open, open_behi
 use Rattle.ledger_rows.proofs.Histories.{one_more}
 use Rattle.ledger_rows.proofs.KnownDeals.{known_is_registered}
 use Rattle.ledger_acts.specs.declared.ledger_fault.LedgerFault.{LedgerFault}
-use Rattle.ledger_acts.specs.declared.ledger_fault.LedgerFault.TheVariants.{DealsFull}
-use Rattle.ledger_acts.specs.LedgerStep.{Opened, acts_of, most_deals, deals_full, full, text_refusal, register_refusal, IsActRefusal, StepsBy, ActSteps, MessageSteps, LedgerStep, Unsaid, Said}
+use Rattle.ledger_acts.specs.LedgerStep.{Opened, acts_of, most_deals, deals_full, full, text_refusal, register_refusal, IsActRefusal, ActSteps, MessageSteps, LedgerStep, Unsaid, Said}
 use Rattle.ledger_acts.specs.FewOpenDeals.{HasFewOpen, FewStayOpen}
 
 -- ---- what is settled stays so

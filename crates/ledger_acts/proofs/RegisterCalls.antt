@@ -1,12 +1,11 @@
 -- A registration by its text and the rows: what each of its endings answers and leaves.
-use Rattle.std.proofs.Common.{◌≡◌, ℕ, ◌+◌, ◌≤◌, nat_le, Bool, true, false, if◌then◌else◌, List, [], length, Option, Some, None, is_some, Result, Ok, Err, refl, sym, ap, subst, ◌∙◌, arith}
+use Rattle.std.proofs.Common.{◌≡◌, ℕ, nat_le, Bool, true, false, if◌then◌else◌, [], Option, Some, None, is_some, Result, Ok, Err, refl, sym, ap, subst, arith}
 use Rattle.std.specs.Option.{option_or}
 use Rattle.dh_base.specs.declared.id.Id.{Id}
 use Rattle.dh_base.specs.Ids.{same_id}
 use Rattle.deal_core.specs.declared.deal_fault.DealFault.{DealFault}
 use Rattle.deal_core.specs.declared.deal_fault.DealFault.TheVariants as deal
 use Rattle.deal_core.specs.Deals.{DealTold, index_of_account}
-use Rattle.keeper_core.specs.declared.change.Change.{Change}
 use Rattle.keeper_core.specs.declared.row.Row.{Row}
 use Rattle.keeper_core.specs.declared.store_fault.StoreFault.{StoreFault}
 use Rattle.keeper_core.specs.declared.store_fault.StoreFault.TheVariants as store
@@ -21,7 +20,7 @@ use Rattle.ledger_rows.specs.RowReading.{Reads, ReadsTable}
 use Rattle.ledger_acts.specs.declared.ledger_fault.LedgerFault.{LedgerFault}
 use Rattle.ledger_acts.specs.declared.ledger_fault.LedgerFault.TheVariants.{WrongHouse, NotAParty, DealsFull, LedgerFull, Store}
 use Rattle.ledger_acts.specs.LedgerFaults.{of_ledger_fault, ledger_fault_of_deal}
-use Rattle.ledger_acts.specs.LedgerStep.{most_acts, most_deals, full, deals_full, text_refusal}
+use Rattle.ledger_acts.specs.LedgerStep.{most_acts, most_deals, full, text_refusal}
 use Rattle.ledger_acts.specs.ByRows.{IsRefusedBy, FitsNoPart, ByRows, RowAct, act_refusal, act_batches, ActsByRows}
 use Rattle.ledger_acts.specs.Registering.{told_open, room_fault, registration_refusal}
 use Rattle.ledger_acts.proofs.Answering.{by_rule, never_done, rule_cause, told_always}

@@ -1,6 +1,5 @@
 -- A registration by its text and the rows is the ledger's step.
-use Rattle.std.proofs.Common.{◌≡◌, ℕ, ◌+◌, ◌<◌, ◌≤◌, ◌^◌, min, not, cond, Bool, true, false, if◌then◌else◌, List, [], ◌∷◌, ◌++◌, length, Option, Some, None, is_some, IfSome, Result, Ok, Err, refl, sym, ap, subst, ◌∙◌, arith}
-use Rattle.std.specs.List.{AllByRecursion}
+use Rattle.std.proofs.Common.{◌≡◌, ℕ, ◌+◌, ◌<◌, ◌≤◌, ◌^◌, not, cond, Bool, true, false, if◌then◌else◌, List, [], ◌∷◌, ◌++◌, length, Option, Some, None, is_some, Result, Ok, Err, refl, sym, ap, subst, ◌∙◌, arith}
 use Rattle.std.specs.Option.{option_map, option_and_then, option_or}
 use Rattle.std.specs.FinMap.{get}
 use Rattle.std.proofs.lemmas.List.{length-append}
@@ -16,8 +15,7 @@ use Rattle.escrow_book.specs.Reached.{are_parties, IsReached}
 use Rattle.escrow_book.proofs.Steps.{reached_push}
 use Rattle.escrow_book.proofs.Sums.{all_append}
 use Rattle.keeper_core.specs.declared.change.Change.{Change}
-use Rattle.keeper_core.specs.declared.store_fault.StoreFault.{StoreFault}
-use Rattle.keeper_core.specs.Tables.{Tables, rows_of}
+use Rattle.keeper_core.specs.Tables.{Tables}
 use Rattle.keeper_core.specs.Batches.{after_batch, after_change}
 use Rattle.keeper_core.specs.Knowing.{Known}
 use Rattle.keeper_core.specs.Leaving.{after_batches}
@@ -30,9 +28,9 @@ use Rattle.ledger_rows.specs.RowChanges.{deal_change, used_change, entry_change}
 use Rattle.ledger_rows.specs.RowValues.{EntryFits}
 use Rattle.ledger_rows.specs.Entries.{digest_of, parties_in, registration_of, book_of}
 use Rattle.ledger_rows.specs.LedgerTables.{StandsFor}
-use Rattle.ledger_rows.specs.OpenDeals.{deal_by, is_new_open, open_behind, open_deals, open_rows, deals_refusal, unless_registered, room_said, refused_unless, room_refusal}
+use Rattle.ledger_rows.specs.OpenDeals.{deal_by, is_new_open, open_behind, open_deals, deals_refusal, unless_registered, room_said, refused_unless, room_refusal}
 use Rattle.ledger_rows.specs.RowKeys.{deal_tab}
-use Rattle.ledger_rows.specs.RowReading.{forms_refusal, deal_said, deal_refusal}
+use Rattle.ledger_rows.specs.RowReading.{deal_said}
 use Rattle.ledger_rows.specs.ActChanges.{act_changes, new_registration, registration_changes}
 use Rattle.ledger_rows.proofs.Cells.{change_at}
 use Rattle.ledger_rows.proofs.DealRows.{registration_with, deal_says, deal_formed}
@@ -41,12 +39,12 @@ use Rattle.ledger_rows.proofs.KnownDeals.{no_parties, known_is_registered}
 use Rattle.ledger_rows.proofs.OpenCounted.{deals_counted}
 use Rattle.ledger_rows.proofs.RegistrationsStand.{registration_stands}
 use Rattle.ledger_acts.specs.declared.ledger_fault.LedgerFault.{LedgerFault}
-use Rattle.ledger_acts.specs.declared.ledger_fault.LedgerFault.TheVariants.{LedgerFull, Store}
+use Rattle.ledger_acts.specs.declared.ledger_fault.LedgerFault.TheVariants.{Store}
 use Rattle.ledger_acts.specs.LedgerFaults.{of_ledger_fault}
 use Rattle.ledger_acts.specs.LedgerState.{form_tab, form_key, RegistersDeal, IsState}
 use Rattle.ledger_acts.specs.LedgerStep.{Opened, first_of, most_acts, is_act, acts_of, full, deals_full, text_refusal, register_refusal}
 use Rattle.ledger_acts.specs.ByRows.{ByRows, RowAct, batches_of, act_batches}
-use Rattle.ledger_acts.specs.Registering.{told_open, room_fault, registering_changes, registering, registration_refusal, IsRegistrationOf, RegistersByRows}
+use Rattle.ledger_acts.specs.Registering.{told_open, room_fault, registering, registration_refusal, IsRegistrationOf}
 use Rattle.ledger_acts.proofs.Answering.{never_done}
 use Rattle.ledger_acts.proofs.DealParties.{text_parties}
 

@@ -1,5 +1,5 @@
 -- What the rows of a ledger's tables say, where the tables stand for a history.
-use Rattle.std.proofs.Common.{◌≡◌, ℕ, ◌+◌, ◌<◌, ◌≤◌, ◌^◌, ◌==◌, ◌&&◌, Bool, true, false, if◌then◌else◌, List, [], ◌∷◌, length, Option, Some, None, refl, sym, ap, subst, ◌∙◌, arith}
+use Rattle.std.proofs.Common.{◌≡◌, ℕ, ◌+◌, ◌<◌, ◌≤◌, ◌^◌, ◌==◌, ◌&&◌, Bool, true, false, if◌then◌else◌, List, length, Option, Some, None, refl, sym, ap, ◌∙◌, arith}
 use Rattle.std.specs.Option.{option_map}
 use Rattle.std.specs.FinMap.{get}
 use Rattle.std.proofs.lemmas.Bool.{eqb-true, eqb-false}
@@ -8,7 +8,6 @@ use Rattle.dh_base.specs.declared.id.Id.{Id}
 use Rattle.dh_base.specs.Names.{is_name}
 use Rattle.escrow_book.specs.Base.{greatest_turn}
 use Rattle.escrow_book.specs.History.{History, free_of, if_commit_of, if_abort_of, moves_of}
-use Rattle.escrow_book.specs.Reached.{IsReached}
 use Rattle.escrow_book.proofs.Whole.{grown}
 use Rattle.escrow_book.proofs.Steps.{base_of}
 use Rattle.escrow_book.proofs.Bounds.{free_within, if_commit_within, if_abort_within}
@@ -22,11 +21,11 @@ use Rattle.ledger_rows.specs.RowKeys.{free_tab, hold_tab, moves_tab, free_key, h
 use Rattle.ledger_rows.specs.RowValues.{free_in, free_text, hold_in, hold_text, moves_in, moves_text}
 use Rattle.ledger_rows.specs.RowReading.{row_of, form_refusal, amount_said, free_said, free_refusal, deal_said, deal_refusal, amounts_said, hold_said, hold_refusal, count_said, moves_said, moves_refusal}
 use Rattle.ledger_rows.specs.Entries.{registration_of, book_of}
-use Rattle.ledger_rows.specs.LedgerTables.{free_value, hold_of, hold_value, moves_value, StandsFor}
+use Rattle.ledger_rows.specs.LedgerTables.{free_value, hold_of, hold_value, moves_value}
 use Rattle.ledger_rows.proofs.ValuesSpelled.{spelled_free, spelled_hold, spelled_moves}
 use Rattle.ledger_rows.proofs.DealRows.{registration_with, deal_says as row_says, deal_formed as row_formed}
 use Rattle.ledger_rows.proofs.RowsKept.{free_row_is, hold_row_is, moves_row_is}
-use Rattle.ledger_acts.specs.LedgerStep.{Opened, acts_of, most_acts}
+use Rattle.ledger_acts.specs.LedgerStep.{Opened}
 use Rattle.ledger_acts.specs.LedgerState.{IsState}
 use Rattle.ledger_acts.proofs.KnownDeals.{moves_within_acts}
 

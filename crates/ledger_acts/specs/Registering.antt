@@ -1,5 +1,5 @@
 -- Registrations, by the deal's text and by the rows that they read.
-use Rattle.std.specs.Prelude.{ℕ, ◌≡◌, ◌+◌, ◌-◌, ◌<◌, ◌^◌, min, not, Bool, List, [], ◌∷◌, ◌++◌, length, Option, Some, None, is_some, MatchResult, Result, Ok}
+use Rattle.std.specs.Prelude.{ℕ, ◌≡◌, ◌+◌, ◌-◌, ◌^◌, min, not, List, [], ◌∷◌, ◌++◌, length, Option, Some, None, is_some, MatchResult, Result, Ok}
 use Rattle.std.specs.Option.{option_or}
 use Rattle.dh_base.specs.declared.id.Id.{Id}
 use Rattle.act_text.specs.declared.act.Act.TheVariants.{Register}

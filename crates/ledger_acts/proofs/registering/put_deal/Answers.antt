@@ -1,4 +1,4 @@
-use Rattle.std.proofs.Common.{rules, ◌≡◌, ℕ, Option, Some, Result, Ok, Err, sym, subst}
+use Rattle.std.proofs.Common.{rules, ◌≡◌, Some, Result, Ok, Err, sym, subst}
 use Rattle.keeper_core.specs.StoreFaults.{store_fault_of}
 use Rattle.ledger_rows.specs.ActChanges.{act_changes}
 use Rattle.ledger_rows.specs.OpenDeals.{room_said, room_refusal}

@@ -1,4 +1,4 @@
-use Rattle.std.proofs.Common.{rules, ◌≡◌, ℕ, Option, Some, Result, Err, sym, subst}
+use Rattle.std.proofs.Common.{rules, ◌≡◌, Some, Result, Err, sym, subst}
 use Rattle.dh_base.specs.declared.id.Id.{Id}
 use Rattle.ledger_rows.specs.ActChanges.{act_changes}
 use Rattle.ledger_rows.specs.Entries.{digest_of}
