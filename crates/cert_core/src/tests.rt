@@ -36,6 +36,7 @@ fn a_set_goes_through_its_text(rt: HostRuntime) -> Result<(), Fail> {
     assert_eq!(rt; set.accounts().len(), 4);
     assert_eq!(rt; set_id(&set), Id(SET_ID));
     assert_eq!(rt; write_set(alloc, &set)?.as_slice(), text.as_slice());
+    assert_eq!(rt; set_id(&set.copied()), Id(SET_ID));
     Ok(())
 }
 
