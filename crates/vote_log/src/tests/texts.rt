@@ -70,4 +70,8 @@ fn heads_of_a_house(rt: HostRuntime) {
     assert_eq!(rt; head_of(&house, &[]), Id(FIRST_HEAD));
     let recs = [start(2), commit(0), abort(1)];
     assert_eq!(rt; head_of(&house, &recs), Id(THIRD_HEAD));
+    assert_eq!(rt; first_head(&house), Id(FIRST_HEAD));
+    let first = head_onward(&first_head(&house), &[start(2)]);
+    let third = head_onward(&first, &[commit(0), abort(1)]);
+    assert_eq!(rt; third, Id(THIRD_HEAD));
 }
