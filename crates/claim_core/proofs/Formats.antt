@@ -108,6 +108,14 @@ passed : {A F : Type 0} (b : Bool) (x y : A) (d : F) → cond b (Ok x) (Err d) �
 passed true x y d e = (refl, cc)
 passed false x y d e = absurd cc
 
+-- an envelope behind its own length
+sig_there : (seat : ℕ) (bytes : List ℕ) (at n : ℕ) (env : Envelope) → number_from w32 bytes at ≡ Ok (n, at + 4) → envelope_at bytes (at + 4) ≡ Ok (env, at + 4 + n) → behind_seat seat bytes at ≡ Ok (made_sig seat env, at + 4 + n)
+sig_there seat bytes at n env one two =
+    let own : (at + 4 + n == at + 4 + n) ≡ true = eq-eqb (at + 4 + n) (at + 4 + n) refl in
+    ap (λ (r : Result (ℕ × ℕ) ReadClaimFault). r >>= behind_len seat bytes at) one
+    ∙ ap (λ (r : Result (Envelope × ℕ) ReadClaimFault). r >>= own_length seat at (n, at + 4)) two
+    ∙ ap (λ (b : Bool). cond b (Ok (made_sig seat env, at + 4 + n)) (Err (BadForm at))) own
+
 takes_behind_seat : (seat : ℕ) → TakesWhatIsSpelled (behind_seat seat) (IsMadeOf (made_sig seat) EnvelopeField)
 takes_behind_seat seat bytes at read are =
     let onward : behind_seat seat bytes at ≡ Ok read → IsSpelledAt (IsMadeOf (made_sig seat) EnvelopeField) bytes at read =
@@ -144,12 +152,9 @@ takes_behind_seat seat bytes at read are =
     let two : envelope_at bytes (at + 4) ≡ Ok (s.spelled.value, at + 4 + length (envelope_text s.spelled.value)) =
     (takes_envelope bytes (at + 4) (s.spelled.value, at + 4 + length (envelope_text s.spelled.value)) are).1
     (record { text = envelope_text s.spelled.value; spelled = (s.spelled.spelled.0.0, refl); stands = parts.1; next = refl }) in
-    let own : (at + 4 + length (envelope_text s.spelled.value) == at + 4 + length (envelope_text s.spelled.value)) ≡ true = eq-eqb _ _ refl in
     let next : at + 4 + length (envelope_text s.spelled.value) ≡ read.1 =
     omega (arith, s.next, ap length s.spelled.spelled.1, length-append (to_be_bytes w32 (length (envelope_text s.spelled.value))) (envelope_text s.spelled.value)) in
-    ap (λ (r : Result (ℕ × ℕ) ReadClaimFault). r >>= behind_len seat bytes at) one
-    ∙ ap (λ (r : Result (Envelope × ℕ) ReadClaimFault). r >>= own_length seat at (length (envelope_text s.spelled.value), at + 4)) two
-    ∙ ap (λ (b : Bool). cond b (Ok (made_sig seat s.spelled.value, at + 4 + length (envelope_text s.spelled.value))) (Err (BadForm at))) own
+    sig_there seat bytes at (length (envelope_text s.spelled.value)) s.spelled.value one two
     ∙ ap (λ (p : SeatSig × ℕ). Ok p) (same_pair (made_sig seat s.spelled.value) (at + 4 + length (envelope_text s.spelled.value)) read (sym s.spelled.is) next) in
     (onward, back)
 
