@@ -6,3 +6,7 @@ pub mod OpenCalls
 pub mod Beginning
 pub mod KeptOpened
 pub mod Submitting
+pub mod Parties
+pub mod Statements
+pub mod Owning
+pub mod Standings

@@ -6,3 +6,4 @@ pub mod Questions
 pub mod Openings
 pub mod FormRows
 pub mod Opens
+pub mod Statements

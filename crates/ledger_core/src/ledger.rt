@@ -1,14 +1,15 @@
 //! Ledgers.
 
-ghost use Rattle.std.specs.Prelude.{◌≡◌, ◌<◌, ◌≤◌, ◌+◌, ◌-◌, ◌^◌, length, None, IfErr, IfOk, OnErr, Some};
+ghost use Rattle.std.specs.Prelude.{◌≡◌, ◌<◌, ◌≤◌, ◌+◌, ◌-◌, ◌^◌, length, [], None, IfErr, IfOk, OnErr, Some};
 ghost use Rattle.std.specs.Result.{IsErrOf};
 ghost use Rattle.escrow_book.specs.History.{free_of, settlement_of};
-ghost use Rattle.keeper_core.specs.Knowing.{FailsNext};
-ghost use Rattle.keeper_core.specs.Leaving.{of_store_fault};
+ghost use Rattle.keeper_core.specs.Knowing.{FailsNext, LooksAtMost};
+ghost use Rattle.keeper_core.specs.Leaving.{Leaves, ended, of_store_fault};
+ghost use Rattle.keeper_core.specs.Stepping.{WhereTold};
 ghost use Rattle.keeper_core.specs.StoreFaults.{HasCause};
 ghost use Rattle.ledger_rows.specs.Asking.{Asks};
 ghost use Rattle.ledger_rows.specs.Entries.{book_of};
-ghost use Rattle.ledger_rows.specs.RowKeys.{free_tab};
+ghost use Rattle.ledger_rows.specs.RowKeys.{free_tab, hold_tab};
 ghost use Rattle.ledger_rows.specs.RowReading.{LacksForm, deal_said};
 ghost use Rattle.ledger_rows.specs.Scanning.{scan_refusal, amount_at, some_of, AreInOrder, AreAmounts};
 ghost use Rattle.cert_core.specs.Sets.{id_of_set};
@@ -18,14 +19,15 @@ ghost use Rattle.ledger_core.specs.Openings.{opened_by};
 ghost use Rattle.ledger_core.specs.Opens.{OpensByRows, OpensKept, OpensEmpty, OpenCause, counts_of, kept_by};
 ghost use Rattle.ledger_core.specs.Questions.{TellsBy, unknown_deal, settlement_refusal, outcome_of, rows_beside, AskCause};
 ghost use Rattle.ledger_core.specs.Submits.{SubmitsFrom, number_in};
+ghost use Rattle.ledger_core.specs.Statements.{statement_refusal, IsStatement};
 
 use crate::act_reply::ActReply;
 use crate::ask_fault::AskFault;
-use crate::asking::{settlement_at, spendable, wide};
+use crate::asking::{Owned, Standing, settlement_at, spendable, standing_of, wide};
 use crate::opening::Opening;
 use crate::opens::open_over;
 use crate::refused::Refused;
-use act_text::HeldRow;
+use act_text::{HeldRow, Statement};
 use cert_core::set_id;
 use dh_base::{Id, List, Name, Outcome};
 use keeper_core::{Arm, Keeper, MemKeeper, StoreFault};
@@ -192,6 +194,41 @@ impl<K: Keeper> Ledger<K> {
     {
         wide(account);
         spendable(self.alloc, &mut self.keeper, account)
+    }
+
+    /// What a ledger tells a party of a deal.
+    pub fn statement(&mut self, deal: &Id, party: &Id) -> Result<Statement, AskFault>
+        ensures tells { TellsBy of_ask_fault (statement_refusal deal.now party.now)
+            (λ opened entries. IsStatement self.old deal.now party.now
+            (book_of opened.rows entries)) result
+            (K.known self.old.keeper) (K.known self.new.keeper) }
+        // Whatever the keeper tells.
+        ensures order { IfOk result (λ statement. AreInOrder statement.rows) }
+        ensures leaves { Leaves [] (ended of_ask_fault result) (K.known self.old.keeper)
+            (K.known self.new.keeper) }
+        ensures looked { WhereTold (K.known self.old.keeper) (K.known self.new.keeper) (λ tables.
+            LooksAtMost (rows_beside hold_tab tables) (K.known self.old.keeper)
+            (K.known self.new.keeper)) }
+        ensures cause { IfErr result (AskCause (K.known self.new.keeper).tables) }
+        ensures fails { FailsNext (K.known self.old.keeper)
+            → IsErrOf result (AskFault.Store StoreFault.Keeper) }
+        ensures rest { self.new ≡ record self.old { keeper = self.new.keeper } }
+    {
+        wide(deal);
+        wide(party);
+        let standing = standing_of(self.alloc, &mut self.keeper, deal, party)?;
+        let Standing { settled, owned } = standing;
+        let Owned { moves, rows } = owned;
+        Ok(Statement {
+            house: self.house,
+            ledger: self.name,
+            deal: *deal,
+            party: *party,
+            at: self.entries,
+            moves,
+            rows,
+            settled,
+        })
     }
 }
 

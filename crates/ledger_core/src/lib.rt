@@ -23,3 +23,6 @@ pub use ledger_acts::LedgerFault;
 pub use open_fault::OpenFault;
 pub use opening::{OpenRow, Opening};
 pub use refused::Refused;
+
+#[cfg(test)]
+mod tests;
