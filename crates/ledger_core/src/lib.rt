@@ -26,3 +26,6 @@ pub use refused::Refused;
 
 #[cfg(test)]
 mod tests;
+
+#[cfg(test)]
+mod submitting_tests;
