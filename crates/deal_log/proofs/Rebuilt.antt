@@ -1,12 +1,13 @@
 -- Which of the given texts a log keeps, and which deals lack theirs.
-use Rattle.std.proofs.Common.{◌≡◌, ◌≢◌, ℕ, zero, suc, ◌+◌, ◌<◌, ◌&&◌, Bool, true, false, cond, not, List, [], ◌∷◌, ◌++◌, length, take, slice_get, Option, Some, None, IsSome, is_some, Result, Ok, Err, is_ok, refl, ap, sym, ◌∙◌, subst, inl, inr, ⊎_elim, arith}
+use Rattle.std.proofs.Common.{◌≡◌, ◌≢◌, ℕ, zero, suc, ◌+◌, ◌<◌, ◌&&◌, Bool, true, false, cond, not, List, [], ◌∷◌, ◌++◌, length, take, slice_get, Option, Some, None, IsSome, is_some, Result, Ok, Err, is_ok, refl, ap, sym, ◌∙◌, subst, inl, inr, ⊎_elim, append_assoc, arith}
 use Rattle.std.specs.List.{Contains, position_from}
 use Rattle.std.specs.Option.{option_map}
 use Rattle.std.specs.Ordering.{nat_cmp}
 use Rattle.std.specs.Cmp.Lexicographic.{slice_cmp}
 use Rattle.std.specs.Str.{bytes_eq}
 use Rattle.std.specs.FinMap.{empty, insert, get-empty}
-use Rattle.std.proofs.lemmas.Bool.{true≢false, and_parts}
+use Rattle.std.proofs.lemmas.Bool.{cases_lt, true≢false, and_parts}
+use Rattle.std.proofs.lemmas.List.{append-nil, take-take}
 use Rattle.std.proofs.lemmas.List.Elements.{Contains-append_left, Contains-append_right, Contains-append_cases}
 use Rattle.sha2.specs.Sha256.{sha256}
 use Rattle.dh_base.specs.declared.id.Id.{Id}
@@ -20,14 +21,14 @@ use Rattle.vote_log.specs.declared.log_fault.LogFault.{LogFault}
 use Rattle.vote_log.specs.Entry.{Entry}
 use Rattle.vote_log.specs.Places.{HoldsAt}
 use Rattle.vote_log.specs.Deciding.{Started, starts, first_start}
-use Rattle.vote_log.specs.Admission.{parties_started, votable_of, IsLog}
+use Rattle.vote_log.specs.Admission.{add_refusal, parties_started, votable_of, IsLogFrom, IsLog}
 use Rattle.vote_log.proofs.Ids.{same_from_bytes, bytes_eq-refl}
-use Rattle.vote_log.proofs.Lists.{position_none}
+use Rattle.vote_log.proofs.Lists.{get_take, position_none}
 use Rattle.vote_log.proofs.Placed.{start_held}
 use Rattle.vote_log.proofs.Votable.{votable_parties}
 use Rattle.deal_log.specs.DealTexts.{TextMap, IsTextFor, id_in, text_of}
 use Rattle.deal_log.specs.VoteLogs.{HasTexts, IsStartedText, most_records}
-use Rattle.deal_log.specs.Rebuilding.{LacksText, KeepsGiven, KeepsText, is_unkept}
+use Rattle.deal_log.specs.Rebuilding.{IsFirstRefused, LacksText, KeepsGiven, KeepsText, is_unkept}
 use Rattle.deal_log.proofs.Kept.{text_inserted}
 
 -- a text that is a deal's has no fault but want of memory
@@ -195,3 +196,30 @@ module _ (house : Id) (recs : List Entry) (texts : List (List ℕ)) (kept : Text
           let held = start_held recs deal start is in
           let fails : is_unkept recs kept (record { kind = Start; num = start.parties; deal = deal }) ≡ false = position_none (is_unkept recs kept) 0 recs e held.0 _ held.1 in
           some_or (text_of kept deal) (sym (ap (λ r. is_ok r && not (is_some (text_of kept deal))) votes) ∙ fails)
+
+-- ---- the records alone
+
+-- each record of a log was taken behind those before it
+log_at : (limit : ℕ) (front rest : List Entry) (k : ℕ) (entry : Entry) → IsLogFrom limit front rest → slice_get rest k ≡ Some entry → add_refusal (front ++ take k rest) limit entry ≡ None
+log_at limit front [] k entry h here = absurd cc
+log_at limit front (x ∷ rest) zero entry h here =
+    let same : x ≡ entry = cc in
+    subst (λ (l : List Entry). add_refusal l limit entry ≡ None) (sym (append-nil front)) (ap (add_refusal front limit) (sym same) ∙ h.0)
+log_at limit front (x ∷ rest) (suc k) entry h here =
+    subst (λ (l : List Entry). add_refusal l limit entry ≡ None) (append_assoc front (x ∷ []) (take k rest)) (log_at limit (front ++ x ∷ []) rest k entry h.1 here)
+
+pub refused_no_log : (recs : List Entry) (at : ℕ) → IsFirstRefused recs at → IsLog recs most_records → ⊥
+refused_no_log recs at r h = r.refused (log_at most_records [] recs at r.entry h r.here)
+
+not_earlier : (recs : List Entry) (a b : ℕ) → IsFirstRefused recs a → IsFirstRefused recs b → a < b → ⊥
+not_earlier recs a b r s less =
+    let there : slice_get (take b recs) a ≡ Some r.entry = get_take recs b a less ∙ r.here in
+    let free = log_at most_records [] (take b recs) a r.entry s.before there in
+    r.refused (ap (λ (l : List Entry). add_refusal l most_records r.entry) (sym (take-take a b recs (omega arith))) ∙ free)
+
+pub one_refused : (recs : List Entry) (a b : ℕ) → IsFirstRefused recs a → IsFirstRefused recs b → a ≡ b
+one_refused recs a b r s =
+    elim (cases_lt a b) [
+      | inl less ↦ absurd (not_earlier recs a b r s less)
+      | inr le ↦ elim (cases_lt b a) [ inl less ↦ absurd (not_earlier recs b a s r less) | inr ge ↦ omega arith ]
+    ]

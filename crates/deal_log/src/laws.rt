@@ -1,16 +1,19 @@
 //! Laws of what logs take.
 
-ghost use Rattle.std.specs.Prelude.{◌≡◌, ◌≢◌, ◌≤◌, ◌+◌, ℕ, Some, Result, length};
+ghost use Rattle.std.specs.Prelude.{◌≡◌, ◌≢◌, ◌≤◌, ◌+◌, ℕ, List, Some, Result, length};
 ghost use Rattle.dh_base.specs.declared.id.Id.{Id};
 ghost use Rattle.dh_base.specs.declared.outcome.Outcome.{Outcome};
 ghost use Rattle.key_ring.specs.declared.envelope.Envelope.{Envelope};
 ghost use Rattle.vote_log.specs.declared.log_fault.LogFault.TheVariants.{LogFull, NotAParty};
+ghost use Rattle.vote_log.specs.Admission.{IsLog};
+ghost use Rattle.vote_log.specs.Entry.{Entry};
 ghost use Rattle.vote_log.specs.Owed.{owed_of};
 ghost use Rattle.deal_log.specs.declared.admit_fault.AdmitFault.{AdmitFault};
 ghost use Rattle.deal_log.specs.declared.admit_fault.AdmitFault.TheVariants.{Refused};
 ghost use Rattle.deal_log.specs.declared.posting.Posting.{Posting};
 ghost use Rattle.deal_log.specs.declared.posting.Posting.TheVariants.{Vote};
 ghost use Rattle.deal_log.specs.Postings.{IsPosted, AreOneReading};
+ghost use Rattle.deal_log.specs.Rebuilding.{IsFirstRefused};
 ghost use Rattle.deal_log.specs.VoteLogs.{VoteLogTold, IsVoteLog, most_records, refusal_of};
 
 use vote_log::laws::votes_fit;
@@ -36,3 +39,11 @@ pub fn votes_taken()
 {
     votes_fit();
 }
+
+/// Records either make a log, or have one that is the first at fault.
+pub fn one_refused()
+    ensures none { (recs : List Entry) (at : ℕ) → IsFirstRefused recs at
+        → IsLog recs most_records → ⊥ }
+    ensures one { (recs : List Entry) (at other : ℕ) → IsFirstRefused recs at
+        → IsFirstRefused recs other → at ≡ other }
+{}
