@@ -1,11 +1,11 @@
 -- A log keeps its texts as it grows, and is as before where what it took last is taken back.
-use Rattle.std.proofs.Common.{◌≡◌, ◌≢◌, ℕ, Bool, true, false, cond, ◌&&◌, Option, Some, None, IsSome, is_some, Result, Ok, Err, OnOk, List, [], ◌∷◌, ◌++◌, length, refl, ap, sym, ◌∙◌, subst, inl, inr, ◌⊎◌, ⊎_elim}
+use Rattle.std.proofs.Common.{◌≡◌, ◌≢◌, ℕ, Bool, true, false, cond, Option, Some, None, IsSome, is_some, Result, Ok, Err, OnOk, List, [], ◌∷◌, ◌++◌, length, refl, ap, sym, ◌∙◌, subst, ⊎_elim}
 use Rattle.std.specs.Option.{option_map, option_or, MatchOption}
 use Rattle.std.specs.Ordering.{nat_cmp, eq_by_cmp}
 use Rattle.std.specs.Cmp.Lexicographic.{slice_cmp, nat_list_cmp_total}
 use Rattle.std.specs.Str.{bytes_eq}
 use Rattle.std.specs.FinMap.{empty, get, insert, remove, get-empty, get-insert, get-remove, same_map}
-use Rattle.std.proofs.lemmas.Bool.{cases_Bool, true≢false}
+use Rattle.std.proofs.lemmas.Bool.{true≢false}
 use Rattle.std.proofs.lemmas.List.{same_from_push}
 use Rattle.std.proofs.lemmas.Map.Lookups.{exact_bytes}
 use Rattle.std.proofs.lemmas.Map.Text.{is_eq-slice_cmp}
@@ -14,22 +14,21 @@ use Rattle.sha2.specs.Sha256.{sha256}
 use Rattle.dh_base.specs.declared.id.Id.{Id}
 use Rattle.dh_base.specs.declared.outcome.Outcome.{Outcome}
 use Rattle.dh_base.specs.declared.outcome.Outcome.TheVariants.{Commit, Abort}
-use Rattle.vote_log.specs.declared.kind.Kind.{Kind}
 use Rattle.vote_log.specs.declared.kind.Kind.TheVariants as kind
 use Rattle.vote_log.specs.declared.log_fault.LogFault.{LogFault}
 use Rattle.vote_log.specs.Entry.{Entry}
 use Rattle.vote_log.specs.Log.{Log}
 use Rattle.vote_log.specs.Deciding.{Started, is_start, first_start}
-use Rattle.vote_log.specs.Admission.{parties_started, votable_of, add_refusal}
-use Rattle.vote_log.proofs.Ids.{same_from_bytes, bytes_eq-refl}
+use Rattle.vote_log.specs.Admission.{votable_of, add_refusal}
+use Rattle.vote_log.proofs.Ids.{same_from_bytes}
 use Rattle.vote_log.proofs.Votable.{votable_before, parties_push, start_is_first, start_pushed}
 use Rattle.deal_log.specs.declared.admit_fault.AdmitFault.{AdmitFault}
 use Rattle.deal_log.specs.declared.admit_fault.AdmitFault.TheVariants.{Refused}
 use Rattle.deal_log.specs.declared.posting.Posting.{Posting}
 use Rattle.deal_log.specs.declared.posting.Posting.TheVariants.{Start, Vote}
-use Rattle.deal_log.specs.DealTexts.{TextMap, IsDealText, IsTextFor, house_in, id_in, parties_in, text_of}
+use Rattle.deal_log.specs.DealTexts.{TextMap, IsDealText, house_in, id_in, parties_in, text_of}
 use Rattle.deal_log.specs.Postings.{start_entry, vote_entry}
-use Rattle.deal_log.specs.VoteLogs.{VoteLogTold, HasTexts, IsStartedText, IsWithPosting, IsUndoable, most_records, ask_refusal, asked, record_refusal, refusal_of, with_posting}
+use Rattle.deal_log.specs.VoteLogs.{VoteLogTold, HasTexts, IsStartedText, IsUndoable, most_records, ask_refusal, asked, record_refusal, refusal_of, with_posting}
 
 pub no_texts : (house : Id) → HasTexts house [] empty
 no_texts house = record {

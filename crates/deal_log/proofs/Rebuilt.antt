@@ -1,15 +1,14 @@
 -- Which of the given texts a log keeps, and which deals lack theirs.
-use Rattle.std.proofs.Common.{◌≡◌, ◌≢◌, ℕ, zero, suc, ◌+◌, ◌<◌, ◌&&◌, Bool, true, false, cond, not, List, [], ◌∷◌, ◌++◌, length, take, slice_get, Option, Some, None, IsSome, is_some, Result, Ok, Err, is_ok, refl, ap, sym, ◌∙◌, subst, inl, inr, ⊎_elim, append_assoc, arith}
+use Rattle.std.proofs.Common.{◌≡◌, ◌≢◌, ℕ, zero, suc, ◌+◌, ◌<◌, ◌&&◌, Bool, true, false, cond, not, List, [], ◌∷◌, ◌++◌, take, slice_get, Option, Some, None, IsSome, is_some, Result, Ok, Err, is_ok, refl, ap, sym, ◌∙◌, subst, inl, inr, ⊎_elim, append_assoc, arith}
 use Rattle.std.specs.List.{Contains, position_from}
 use Rattle.std.specs.Option.{option_map}
 use Rattle.std.specs.Ordering.{nat_cmp}
 use Rattle.std.specs.Cmp.Lexicographic.{slice_cmp}
 use Rattle.std.specs.Str.{bytes_eq}
-use Rattle.std.specs.FinMap.{empty, insert, get-empty}
+use Rattle.std.specs.FinMap.{empty, get-empty}
 use Rattle.std.proofs.lemmas.Bool.{cases_lt, true≢false, and_parts}
 use Rattle.std.proofs.lemmas.List.{append-nil, take-take}
 use Rattle.std.proofs.lemmas.List.Elements.{Contains-append_left, Contains-append_right, Contains-append_cases}
-use Rattle.sha2.specs.Sha256.{sha256}
 use Rattle.dh_base.specs.declared.id.Id.{Id}
 use Rattle.deal_core.specs.declared.deal_fault.DealFault.{DealFault}
 use Rattle.deal_core.specs.declared.deal_fault.DealFault.TheVariants.{NoMemory}
@@ -19,9 +18,8 @@ use Rattle.vote_log.specs.declared.kind.Kind.{Kind}
 use Rattle.vote_log.specs.declared.kind.Kind.TheVariants.{Start, Commit, Abort}
 use Rattle.vote_log.specs.declared.log_fault.LogFault.{LogFault}
 use Rattle.vote_log.specs.Entry.{Entry}
-use Rattle.vote_log.specs.Places.{HoldsAt}
 use Rattle.vote_log.specs.Deciding.{Started, starts, first_start}
-use Rattle.vote_log.specs.Admission.{add_refusal, parties_started, votable_of, IsLogFrom, IsLog}
+use Rattle.vote_log.specs.Admission.{add_refusal, votable_of, IsLogFrom, IsLog}
 use Rattle.vote_log.proofs.Ids.{same_from_bytes, bytes_eq-refl}
 use Rattle.vote_log.proofs.Lists.{get_take, position_none}
 use Rattle.vote_log.proofs.Placed.{start_held}

@@ -1,5 +1,5 @@
 -- An envelope has one reading, and votes are refused by the voter's name.
-use Rattle.std.proofs.Common.{◌≡◌, ◌≢◌, ℕ, zero, suc, ◌+◌, ◌<◌, ◌≤◌, nat_le, Bool, true, false, cond, eqb, List, [], ◌∷◌, length, Option, Some, None, Result, Ok, Err, MatchResult, refl, ap, sym, ◌∙◌, subst, inl, inr, ◌⊎◌, arith}
+use Rattle.std.proofs.Common.{◌≡◌, ◌≢◌, ℕ, ◌+◌, ◌<◌, nat_le, Bool, true, false, cond, List, [], ◌∷◌, length, Option, Some, None, Result, Ok, Err, refl, ap, sym, ◌∙◌, subst, inl, inr, ◌⊎◌, arith}
 use Rattle.std.specs.Option.{option_map, option_or}
 use Rattle.std.proofs.lemmas.Bool.{eqb-true}
 use Rattle.dh_base.specs.declared.id.Id.{Id}
@@ -12,9 +12,6 @@ use Rattle.key_ring.specs.Answering.{said_of}
 use Rattle.key_ring.proofs.Checked.{answer_is}
 use Rattle.act_text.specs.declared.act.Act.{Act}
 use Rattle.act_text.specs.declared.act.Act.TheVariants as act
-use Rattle.act_text.specs.declared.act_fault.ActFault.{ActFault}
-use Rattle.act_text.specs.declared.office.Office.TheVariants.{Log as OfLog}
-use Rattle.act_text.specs.ActReading.{act_of}
 use Rattle.deal_core.specs.declared.party.Party.{Party}
 use Rattle.deal_core.specs.declared.deal_fault.DealFault.{DealFault}
 use Rattle.deal_core.specs.declared.deal_fault.DealFault.TheVariants as deal_fault
@@ -32,7 +29,7 @@ use Rattle.deal_log.specs.declared.admit_fault.AdmitFault.{AdmitFault}
 use Rattle.deal_log.specs.declared.admit_fault.AdmitFault.TheVariants.{BadEnvelope, BadAct, BadDeal, WrongHouse, Refused}
 use Rattle.deal_log.specs.declared.posting.Posting.{Posting}
 use Rattle.deal_log.specs.declared.posting.Posting.TheVariants.{Start, Vote}
-use Rattle.deal_log.specs.DealTexts.{TextMap, IsDealText, parties_in, text_of}
+use Rattle.deal_log.specs.DealTexts.{IsDealText, parties_in, text_of}
 use Rattle.deal_log.specs.Postings.{SaysAct, Posts, IsPostFault, IsPosted, AreOneReading, vote_entry}
 use Rattle.deal_log.specs.VoteLogs.{VoteLogTold, HasTexts, most_records, parties_kept, is_index, is_party_at, vote_refusal, record_refusal, refusal_of}
 

@@ -1,5 +1,5 @@
 -- What an envelope asks of a log, or why it asks nothing.
-use Rattle.std.specs.Prelude.{ℕ, ◌≡◌, ◌≢◌, ◌++◌, nat_lt, if◌then◌else◌, List, length, Option, Some, None, Result, Ok, Err, MatchResult, ◌⊎◌}
+use Rattle.std.specs.Prelude.{ℕ, ◌≡◌, ◌≢◌, nat_lt, if◌then◌else◌, List, length, Option, Some, None, Result, Ok, Err, MatchResult, ◌⊎◌}
 use Rattle.dh_base.specs.declared.id.Id.{Id}
 use Rattle.dh_base.specs.declared.outcome.Outcome.{Outcome}
 use Rattle.dh_base.specs.Limits.{most_parties}

@@ -1,5 +1,5 @@
 -- How a log is made again from its records and the texts of its deals.
-use Rattle.std.specs.Prelude.{ℕ, ◌≡◌, ◌<◌, ◌&&◌, ◌⊎◌, Bool, true, false, not, List, take, slice_get, Option, Some, None, IsSome, is_some, Result, Ok, Err, is_ok}
+use Rattle.std.specs.Prelude.{ℕ, ◌≡◌, ◌<◌, ◌&&◌, ◌⊎◌, Bool, not, List, take, slice_get, Some, None, IsSome, is_some, Ok, is_ok}
 use Rattle.std.specs.List.{Contains}
 use Rattle.std.specs.FinMap.{insert}
 use Rattle.sha2.specs.Sha256.{sha256}

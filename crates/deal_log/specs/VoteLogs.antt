@@ -1,12 +1,11 @@
 -- A log that takes envelopes, as contracts see it: what it refuses, and what it keeps.
-use Rattle.std.specs.Prelude.{ℕ, ◌≡◌, ◌==◌, ◌++◌, ◌∷◌, [], ◌<◌, ◌⊎◌, Bool, false, if◌then◌else◌, List, length, Option, Some, None, IsSome, Result, Ok, Err, refl}
+use Rattle.std.specs.Prelude.{ℕ, ◌≡◌, ◌==◌, ◌++◌, ◌∷◌, [], ◌<◌, ◌⊎◌, Bool, false, if◌then◌else◌, List, Option, Some, None, IsSome, Result, Ok, Err, refl}
 use Rattle.std.specs.Option.{option_map, option_or}
 use Rattle.std.specs.Coded.{Coded, code_by, coded×, coded_ℕ, coded_list}
-use Rattle.std.specs.FinMap.{code, insert, remove}
+use Rattle.std.specs.FinMap.{code, insert}
 use Rattle.sha2.specs.Sha256.{sha256}
 use Rattle.dh_base.specs.declared.id.Id.{Id}
 use Rattle.dh_base.specs.contracts.id.Id as id
-use Rattle.dh_base.specs.declared.outcome.Outcome.{Outcome}
 use Rattle.dh_base.specs.Ids.{same_id}
 use Rattle.dh_base.specs.Limits.{most_parties}
 use Rattle.key_ring.specs.declared.envelope.Envelope.{Envelope}

@@ -1,7 +1,6 @@
 -- What an act under a key does, by its key and its refusal, is the ledger's step.
-use Rattle.std.proofs.Common.{◌≡◌, ◌⊎◌, ℕ, ◌+◌, Bool, true, false, if◌then◌else◌, List, [], ◌∷◌, ◌++◌, length, Option, Some, None, IfSome, Result, Ok, Err, inl, inr, refl, sym, ap, subst, ◌∙◌}
+use Rattle.std.proofs.Common.{◌≡◌, ℕ, ◌+◌, Bool, true, false, if◌then◌else◌, List, [], ◌∷◌, ◌++◌, length, Option, Some, None, IfSome, Result, Ok, Err, inl, inr, refl, sym, ap, subst, ◌∙◌}
 use Rattle.std.specs.Option.{option_or}
-use Rattle.std.specs.Str.{bytes_eq}
 use Rattle.dh_base.specs.declared.id.Id.{Id}
 use Rattle.dh_base.specs.Ids.{same_id}
 use Rattle.act_text.specs.declared.act.Act.{Act as Asked}
@@ -9,24 +8,24 @@ use Rattle.act_text.specs.declared.act.Act.TheVariants as act
 use Rattle.keeper_core.specs.Tables.{Tables}
 use Rattle.keeper_core.specs.Knowing.{Known}
 use Rattle.keeper_core.specs.Leaving.{Ended}
-use Rattle.keeper_core.specs.Stepping.{IsReply, Backs, Steps}
+use Rattle.keeper_core.specs.Stepping.{IsReply, Steps}
 use Rattle.keeper_core.proofs.Leaving.{if_some}
 use Rattle.ledger_rows.specs.declared.entry.Entry.{Entry}
 use Rattle.ledger_rows.specs.declared.entry.Entry.TheVariants.{Act}
 use Rattle.ledger_rows.specs.declared.used_key.UsedKey.{UsedKey}
 use Rattle.ledger_rows.specs.Entries.{digest_of, book_of}
 use Rattle.ledger_acts.specs.declared.ledger_fault.LedgerFault.{LedgerFault}
-use Rattle.ledger_acts.specs.declared.ledger_fault.LedgerFault.TheVariants.{WrongLedger, WrongHouse, KeyReused}
+use Rattle.ledger_acts.specs.declared.ledger_fault.LedgerFault.TheVariants.{KeyReused}
 use Rattle.ledger_acts.specs.declared.ledger_id.LedgerId.{LedgerId}
 use Rattle.ledger_acts.specs.declared.place.Place.{Place}
 use Rattle.ledger_acts.specs.declared.movement.Movement.{Movement}
 use Rattle.ledger_acts.specs.declared.movement.Movement.TheVariants.{Payment, Escrow, Transfer}
 use Rattle.ledger_acts.specs.LedgerFaults.{of_ledger_fault}
-use Rattle.ledger_acts.specs.LedgerStep.{Opened, first_of, by_book, wrong_ledger, wrong_house, full, acts_of, move_refusal, IsActRefusal, kept_reply, ActSteps}
+use Rattle.ledger_acts.specs.LedgerStep.{Opened, first_of, by_book, wrong_ledger, wrong_house, full, acts_of, IsActRefusal, ActSteps}
 use Rattle.ledger_acts.specs.LedgerState.{IsState}
-use Rattle.ledger_acts.specs.Once.{reused, by_key, number_by, entries_by}
+use Rattle.ledger_acts.specs.Once.{by_key, number_by, entries_by}
 use Rattle.ledger_acts.specs.Movements.{book_refusal, movement_of, head_refusal}
-use Rattle.ledger_acts.specs.Steps.{IsNext, refusal_in, Replies}
+use Rattle.ledger_acts.specs.Steps.{IsNext, Replies}
 use Rattle.ledger_acts.proofs.MovementSteps.{moved_step, some_is}
 
 -- ---- steps, with what they answer said otherwise

@@ -1,5 +1,5 @@
 -- How calls over a ledger's rows end, and what they name.
-use Rattle.std.proofs.Common.{◌≡◌, ◌⊎◌, ℕ, ◌+◌, ◌≤◌, List, [], ◌∷◌, length, Option, Some, None, IfSome, IsSome, inl, inr, ap, subst, arith}
+use Rattle.std.proofs.Common.{◌≡◌, ℕ, ◌+◌, ◌≤◌, length, Option, Some, None, IfSome, IsSome, inl, inr, ap, subst, arith}
 use Rattle.std.specs.Option.{option_map, option_or}
 use Rattle.dh_base.specs.declared.id.Id.{Id}
 use Rattle.keeper_core.specs.declared.keep_fault.KeepFault.{KeepFault}
@@ -9,7 +9,7 @@ use Rattle.keeper_core.specs.declared.store_fault.StoreFault.TheVariants as stor
 use Rattle.keeper_core.specs.StoreFaults.{HasCause, store_fault_of}
 use Rattle.keeper_core.specs.Tables.{Tables, rows_of}
 use Rattle.keeper_core.specs.Knowing.{Known, LooksAtMost}
-use Rattle.keeper_core.specs.Leaving.{Ended, done, failed, starved, refused, of_store_fault, KeepsTold, Leaves}
+use Rattle.keeper_core.specs.Leaving.{Ended, done, failed, starved, refused, of_store_fault, KeepsTold}
 use Rattle.keeper_core.specs.Stepping.{IsRefusal}
 use Rattle.keeper_core.proofs.Leaving.{is_told}
 use Rattle.ledger_rows.specs.RowReading.{LacksForm}

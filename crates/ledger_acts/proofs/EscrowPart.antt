@@ -1,5 +1,5 @@
 -- The rows that an escrow reads make a part that agrees with the whole book.
-use Rattle.std.proofs.Common.{◌≡◌, ℕ, ◌+◌, ◌<◌, ◌≤◌, ◌^◌, ◌==◌, ◌&&◌, ◌||◌, not, nat_le, length, Bool, true, false, if◌then◌else◌, List, [], ◌∷◌, Option, Some, None, IsTrue, refl, sym, ap, subst, ◌∙◌, arith}
+use Rattle.std.proofs.Common.{◌≡◌, ℕ, ◌+◌, ◌<◌, ◌^◌, ◌&&◌, not, nat_le, length, Bool, true, false, if◌then◌else◌, List, [], ◌∷◌, Option, Some, None, IsTrue, refl, sym, ap, ◌∙◌, arith}
 use Rattle.std.specs.Option.{option_or, option_map, option_and_then, option_map_or}
 use Rattle.std.specs.Str.{bytes_eq}
 use Rattle.dh_base.specs.declared.id.Id.{Id}
@@ -8,11 +8,10 @@ use Rattle.dh_base.proofs.SameIds.{same_id-self}
 use Rattle.dh_base.specs.declared.outcome.Outcome.{Outcome}
 use Rattle.escrow_book.specs.declared.change.Change.TheVariants.{Escrowed}
 use Rattle.escrow_book.specs.declared.known_deal.KnownDeal.{KnownDeal}
-use Rattle.escrow_book.specs.declared.fault.BookFault.{BookFault}
 use Rattle.escrow_book.specs.declared.fault.BookFault.TheVariants as book
 use Rattle.escrow_book.specs.declared.row.HoldRow.{HoldRow}
 use Rattle.escrow_book.specs.declared.row.BookRow.{BookRow}
-use Rattle.escrow_book.specs.declared.row.BookRow.TheVariants.{Free, Deal, Hold}
+use Rattle.escrow_book.specs.declared.row.BookRow.TheVariants.{Free, Deal}
 use Rattle.escrow_book.specs.History.{History, with_change, parties_of, settlement_of, is_in, is_among, free_of, if_commit_of, if_abort_of}
 use Rattle.escrow_book.specs.Reached.{IsReached, IsGrown, IsAccepted, are_parties, are_different}
 use Rattle.escrow_book.specs.Refused.{escrow_refusal}

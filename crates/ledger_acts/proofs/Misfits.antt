@@ -1,5 +1,5 @@
 -- A row that is named where rows make no part is one of them.
-use Rattle.std.proofs.Common.{◌≡◌, ℕ, List, [], ◌∷◌, Option, Some, None, refl, sym, ap, ◌∙◌, arith}
+use Rattle.std.proofs.Common.{◌≡◌, ℕ, List, [], ◌∷◌, Option, Some, None, refl, sym, ap, arith}
 use Rattle.std.specs.List.{slice_get}
 use Rattle.std.specs.Option.{option_map, option_and_then, option_or}
 use Rattle.sha2.specs.Sha256.{sha256}
@@ -10,13 +10,11 @@ use Rattle.escrow_book.specs.declared.part_fault.PartFault.{PartFault}
 use Rattle.escrow_book.specs.declared.part_fault.PartFault.TheVariants as part
 use Rattle.escrow_book.specs.declared.row.BookRow.{BookRow}
 use Rattle.escrow_book.specs.PartRows.{no_rows, first_fault, part_of}
-use Rattle.keeper_core.specs.declared.store_fault.StoreFault.{StoreFault}
 use Rattle.keeper_core.specs.declared.store_fault.StoreFault.TheVariants as store
 use Rattle.ledger_acts.specs.declared.ledger_fault.LedgerFault.{LedgerFault}
 use Rattle.ledger_acts.specs.declared.ledger_fault.LedgerFault.TheVariants.{Store}
 use Rattle.ledger_acts.specs.declared.movement.Movement.{Movement}
-use Rattle.ledger_acts.specs.LedgerFaults.{ledger_fault_of}
-use Rattle.ledger_acts.specs.LedgerStep.{first_of, by_book, full, most_acts}
+use Rattle.ledger_acts.specs.LedgerStep.{first_of, by_book, full}
 use Rattle.ledger_acts.specs.ByRows.{cell_of_row, place_of, FitsNoPart}
 use Rattle.ledger_acts.specs.Movements.{book_refusal, naming, part_refusal, movement_refusal}
 

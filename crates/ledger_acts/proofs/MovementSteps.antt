@@ -28,19 +28,16 @@ use Rattle.escrow_book.proofs.Lookups.{both_none}
 use Rattle.escrow_book.proofs.Standing.{good_parties}
 use Rattle.escrow_book.proofs.Steps.{reached_push}
 use Rattle.keeper_core.specs.declared.change.Change.{Change}
-use Rattle.keeper_core.specs.declared.store_fault.StoreFault.{StoreFault}
 use Rattle.keeper_core.specs.Tables.{Cell, Tables}
 use Rattle.keeper_core.specs.Batches.{after_batch, after_change}
 use Rattle.keeper_core.specs.Leaving.{after_batches}
-use Rattle.keeper_core.specs.Stepping.{AtMostOne}
 use Rattle.ledger_rows.specs.declared.entry.Entry.{Entry}
 use Rattle.ledger_rows.specs.declared.entry.Entry.TheVariants.{Act}
-use Rattle.ledger_rows.specs.declared.hold.Hold.{Hold}
 use Rattle.ledger_rows.specs.declared.registration.Registration.{Registration}
 use Rattle.ledger_rows.specs.RowChanges.{free_change, hold_change, moves_change, used_change, entry_change}
 use Rattle.ledger_rows.specs.RowReading.{pair_of}
 use Rattle.ledger_rows.specs.RowValues.{EntryFits}
-use Rattle.ledger_rows.specs.Entries.{digest_of, with_act, registration_of, used_of, book_of}
+use Rattle.ledger_rows.specs.Entries.{digest_of, registration_of, used_of, book_of}
 use Rattle.ledger_rows.specs.LedgerTables.{hold_of, StandsFor}
 use Rattle.ledger_rows.specs.ActChanges.{IsNew, act_changes}
 use Rattle.ledger_rows.proofs.Cells.{change_at, free_at, hold_at, moves_at}

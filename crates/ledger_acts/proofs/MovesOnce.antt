@@ -1,5 +1,5 @@
 -- A movement under its key is the ledger's step.
-use Rattle.std.proofs.Common.{◌≡◌, ℕ, ◌+◌, List, [], ◌∷◌, Option, Some, None, IfSome, Result, inl, ap}
+use Rattle.std.proofs.Common.{◌≡◌, ℕ, ◌+◌, List, Option, Some, None, IfSome, Result, inl, ap}
 use Rattle.std.specs.Option.{option_map, option_or}
 use Rattle.dh_base.specs.declared.id.Id.{Id}
 use Rattle.act_text.specs.declared.act.Act.{Act as Asked}

@@ -23,7 +23,7 @@ use Rattle.ledger_rows.proofs.ValuesSpelled.{spelled_used}
 use Rattle.ledger_acts.specs.declared.ledger_fault.LedgerFault.{LedgerFault}
 use Rattle.ledger_acts.specs.declared.ledger_fault.LedgerFault.TheVariants.{Store}
 use Rattle.ledger_acts.specs.LedgerFaults.{of_ledger_fault}
-use Rattle.ledger_acts.specs.LedgerStep.{Opened, acts_of}
+use Rattle.ledger_acts.specs.LedgerStep.{Opened}
 use Rattle.ledger_acts.specs.LedgerState.{IsState}
 use Rattle.ledger_acts.specs.ByRows.{ByRows}
 use Rattle.ledger_acts.specs.Once.{by_key, number_by, batches_by, entries_by, key_said, key_at, once_refusal, once_batches, IsOnceAnswer}

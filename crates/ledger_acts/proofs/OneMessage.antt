@@ -3,8 +3,6 @@ use Rattle.std.proofs.Common.{◌≡◌, ◌⊎◌, ℕ, ◌+◌, ◌==◌, ◌&
 use Rattle.std.specs.List.{AllByRecursion}
 use Rattle.std.specs.Option.{option_or}
 use Rattle.std.proofs.lemmas.Bool.{eq-eqb}
-use Rattle.std.proofs.lemmas.List.{append-nil}
-use Rattle.sha2.specs.Sha256.{sha256}
 use Rattle.dh_base.specs.declared.id.Id.{Id}
 use Rattle.dh_base.specs.Ids.{same_id}
 use Rattle.dh_base.proofs.SameIds.{same_id-self, id_from_same}
@@ -19,12 +17,12 @@ use Rattle.key_ring.specs.Answering.{IsAnswer}
 use Rattle.key_ring.specs.Saying.{Says}
 use Rattle.key_ring.proofs.Checked.{says_both}
 use Rattle.ledger_rows.specs.declared.entry.Entry.{Entry}
-use Rattle.ledger_rows.specs.declared.entry.Entry.TheVariants.{Act, Settlement}
+use Rattle.ledger_rows.specs.declared.entry.Entry.TheVariants.{Act}
 use Rattle.ledger_rows.specs.declared.used_key.UsedKey.{UsedKey}
 use Rattle.ledger_rows.specs.Entries.{digest_of, signed_by, used_from, used_of}
 use Rattle.ledger_acts.specs.declared.ledger_fault.LedgerFault.{LedgerFault}
-use Rattle.ledger_acts.specs.declared.ledger_fault.LedgerFault.TheVariants.{BadEnvelope, BadAct, KeyReused}
-use Rattle.ledger_acts.specs.LedgerStep.{Opened, kept_reply, IsActRefusal, StepsBy, ActSteps, MessageSteps, LedgerStep, Unsaid, Said as StepSaid}
+use Rattle.ledger_acts.specs.declared.ledger_fault.LedgerFault.TheVariants.{BadAct, KeyReused}
+use Rattle.ledger_acts.specs.LedgerStep.{Opened, kept_reply, StepsBy, ActSteps, MessageSteps, LedgerStep, Unsaid, Said as StepSaid}
 use Rattle.ledger_acts.specs.Runs.{Request, IsRun, IsKept}
 
 -- ---- what a key has signed stays

@@ -1,12 +1,11 @@
 -- The rows that a payment reads make a part that agrees with the whole book.
-use Rattle.std.proofs.Common.{◌≡◌, ℕ, ◌+◌, ◌==◌, ◌||◌, ◌&&◌, not, Bool, true, false, if◌then◌else◌, List, [], ◌∷◌, Option, Some, None, refl, sym, ap, ◌∙◌, arith}
+use Rattle.std.proofs.Common.{◌≡◌, ℕ, ◌+◌, ◌==◌, ◌||◌, ◌&&◌, not, Bool, true, false, if◌then◌else◌, List, [], ◌∷◌, Some, None, refl, sym, ap, ◌∙◌, arith}
 use Rattle.std.specs.Option.{option_or}
 use Rattle.std.specs.Str.{bytes_eq}
 use Rattle.dh_base.specs.declared.id.Id.{Id}
 use Rattle.dh_base.specs.Ids.{same_id}
 use Rattle.dh_base.proofs.SameIds.{same_id-self, same_id-swap}
 use Rattle.escrow_book.specs.declared.change.Change.TheVariants.{Paid}
-use Rattle.escrow_book.specs.declared.fault.BookFault.{BookFault}
 use Rattle.escrow_book.specs.declared.fault.BookFault.TheVariants as book
 use Rattle.escrow_book.specs.declared.row.BookRow.{BookRow}
 use Rattle.escrow_book.specs.declared.row.BookRow.TheVariants.{Free}
@@ -21,9 +20,7 @@ use Rattle.escrow_book.proofs.Rows.{good_rows}
 use Rattle.escrow_book.proofs.RowsFound.{free_is}
 use Rattle.escrow_book.proofs.Fitting.{no_fault_of_whole}
 use Rattle.escrow_book.proofs.Parts.{agree_after, same_pay_refusal}
-use Rattle.keeper_core.specs.declared.change.Change.{Change}
 use Rattle.ledger_rows.specs.ActChanges.{payment_changes}
-use Rattle.ledger_acts.specs.declared.movement.Movement.{Movement}
 use Rattle.ledger_acts.specs.declared.movement.Movement.TheVariants.{Payment}
 use Rattle.ledger_acts.specs.Movements.{payment_rows}
 use Rattle.ledger_acts.proofs.Agreeing.{Agrees, same_bytes, and_true, and_false}

@@ -1,12 +1,8 @@
 -- A registration under its key is the ledger's step.
-use Rattle.std.proofs.Common.{◌≡◌, ◌⊎◌, ℕ, ◌+◌, ◌<◌, ◌^◌, List, [], ◌∷◌, ◌++◌, length, Option, Some, None, IfSome, Result, Ok, Err, inl, inr, refl, sym, ap, subst, ◌∙◌}
-use Rattle.std.specs.Option.{option_or}
+use Rattle.std.proofs.Common.{◌≡◌, ◌⊎◌, ℕ, ◌+◌, List, [], ◌∷◌, ◌++◌, length, Option, Some, None, IfSome, Result, Ok, Err, inl, inr, refl, sym, ap, subst}
 use Rattle.dh_base.specs.declared.id.Id.{Id}
 use Rattle.dh_base.specs.Ids.{same_id}
-use Rattle.act_text.specs.declared.act.Act.{Act as Asked}
 use Rattle.act_text.specs.declared.act.Act.TheVariants.{Register}
-use Rattle.act_text.specs.declared.office.Office.TheVariants.{Ledger}
-use Rattle.act_text.specs.ActReading.{act_of}
 use Rattle.deal_core.specs.Deals.{DealTold}
 use Rattle.deal_core.specs.Reading.{Answers}
 use Rattle.deal_core.specs.declared.deal_fault.DealFault.{DealFault}
@@ -15,12 +11,12 @@ use Rattle.keeper_core.specs.declared.store_fault.StoreFault.TheVariants as stor
 use Rattle.keeper_core.specs.Tables.{Tables}
 use Rattle.keeper_core.specs.Knowing.{Known}
 use Rattle.keeper_core.specs.Leaving.{Ended, done, failed, starved, refused}
-use Rattle.keeper_core.specs.Stepping.{IsRefusal, IsReply, Backs, Steps}
+use Rattle.keeper_core.specs.Stepping.{IsRefusal, Steps}
 use Rattle.keeper_core.proofs.Leaving.{if_some}
 use Rattle.ledger_rows.specs.declared.entry.Entry.{Entry}
 use Rattle.ledger_rows.specs.declared.entry.Entry.TheVariants.{Act}
 use Rattle.ledger_rows.specs.declared.used_key.UsedKey.{UsedKey}
-use Rattle.ledger_rows.specs.ActChanges.{IsNew, act_changes}
+use Rattle.ledger_rows.specs.ActChanges.{act_changes}
 use Rattle.ledger_rows.specs.Entries.{digest_of, used_of}
 use Rattle.ledger_rows.specs.RowKeys.{deal_tab}
 use Rattle.ledger_acts.specs.declared.ledger_fault.LedgerFault.{LedgerFault}
@@ -29,11 +25,11 @@ use Rattle.ledger_acts.specs.declared.ledger_id.LedgerId.{LedgerId}
 use Rattle.ledger_acts.specs.declared.place.Place.{Place}
 use Rattle.ledger_acts.specs.LedgerFaults.{of_ledger_fault}
 use Rattle.ledger_acts.specs.LedgerState.{IsState}
-use Rattle.ledger_acts.specs.LedgerStep.{Opened, ReadsAs, text_refusal, register_refusal}
+use Rattle.ledger_acts.specs.LedgerStep.{Opened, text_refusal, register_refusal}
 use Rattle.ledger_acts.specs.ByRows.{act_batches}
 use Rattle.ledger_acts.specs.Once.{by_key, number_by, entries_by}
-use Rattle.ledger_acts.specs.Registering.{registering, registration_refusal, IsRegistrationOf, RegistersOnceByRows}
-use Rattle.ledger_acts.specs.Steps.{IsNext, StepsByAct, IsCutShort, ActsByStep}
+use Rattle.ledger_acts.specs.Registering.{registering, registration_refusal, RegistersOnceByRows}
+use Rattle.ledger_acts.specs.Steps.{StepsByAct, IsCutShort, ActsByStep}
 use Rattle.ledger_acts.proofs.OnceSteps.{once_steps}
 use Rattle.ledger_acts.proofs.ActsStep.{Stepped, new_step, kept_step}
 use Rattle.ledger_acts.proofs.MovesOnce.{always_told, few_batches}

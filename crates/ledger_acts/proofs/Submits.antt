@@ -1,5 +1,5 @@
 -- An envelope is answered by the ledger's step.
-use Rattle.std.proofs.Common.{◌≡◌, ◌⊎◌, ◌↔◌, ℕ, Bool, true, false, cond, nat_le, ◌+◌, ◌<◌, ◌≤◌, ◌^◌, List, [], length, Option, Some, None, IfSome, IsSome, IfErr, Result, Ok, Err, inl, inr, refl, sym, ap, subst, ◌∙◌, arith}
+use Rattle.std.proofs.Common.{◌≡◌, ◌⊎◌, ◌↔◌, ℕ, Bool, true, false, cond, nat_le, ◌+◌, ◌<◌, ◌≤◌, ◌^◌, List, [], length, Option, Some, None, IsSome, Result, Ok, Err, inl, inr, refl, sym, ap, subst, ◌∙◌, arith}
 use Rattle.sha2.proofs.Facts256.{length-sha256}
 use Rattle.sha2.specs.Sha256.{sha256}
 use Rattle.dh_base.specs.declared.id.Id.{Id}
@@ -14,8 +14,8 @@ use Rattle.keeper_core.specs.declared.change.Change.{Change}
 use Rattle.keeper_core.specs.declared.store_fault.StoreFault.TheVariants as store
 use Rattle.keeper_core.specs.Tables.{Tables}
 use Rattle.keeper_core.specs.Knowing.{Known}
-use Rattle.keeper_core.specs.Leaving.{Ended, done, failed, starved, refused, ended, Leaves}
-use Rattle.keeper_core.specs.Stepping.{IsRefusal, Backs, Steps}
+use Rattle.keeper_core.specs.Leaving.{Ended, done, failed, refused}
+use Rattle.keeper_core.specs.Stepping.{IsRefusal, Backs}
 use Rattle.keeper_core.proofs.Leaving.{if_some, not_asked}
 use Rattle.key_ring.specs.declared.env_fault.EnvFault.{EnvFault}
 use Rattle.key_ring.specs.declared.envelope.Envelope.{Envelope}
@@ -25,7 +25,6 @@ use Rattle.key_ring.specs.Answering.{IsAnswer, is_signed_by, said_with, said_of}
 use Rattle.key_ring.specs.Rings.{Ring, ring_of}
 use Rattle.key_ring.specs.Saying.{Says, IsKeyOutside, IsBadlySigned}
 use Rattle.ledger_rows.specs.declared.entry.Entry.{Entry}
-use Rattle.ledger_rows.specs.Entries.{used_of}
 use Rattle.ledger_acts.specs.declared.ledger_fault.LedgerFault.{LedgerFault}
 use Rattle.ledger_acts.specs.declared.ledger_fault.LedgerFault.TheVariants.{BadEnvelope, BadAct, Store}
 use Rattle.ledger_acts.specs.declared.ledger_id.LedgerId.{LedgerId}
@@ -35,8 +34,8 @@ use Rattle.ledger_acts.specs.declared.movement.Movement.TheVariants.{Payment, Es
 use Rattle.ledger_acts.specs.Movements.{movement_of, movement_looks}
 use Rattle.ledger_acts.specs.LedgerFaults.{of_ledger_fault, ledger_fault_of_act}
 use Rattle.ledger_acts.specs.LedgerState.{IsState}
-use Rattle.ledger_acts.specs.LedgerStep.{Opened, MessageSteps, LedgerStep, Unsaid, Said}
-use Rattle.ledger_acts.specs.ByRows.{LooksBy, IsCause, ByRows}
+use Rattle.ledger_acts.specs.LedgerStep.{Opened, MessageSteps, Unsaid, Said}
+use Rattle.ledger_acts.specs.ByRows.{IsCause, ByRows}
 use Rattle.ledger_acts.specs.Steps.{StepsByAct, IsCutShort, ActsByStep, Replies, StepsByEnvelope, SubmitsByStep, LeavesByRows, through}
 use Rattle.ledger_acts.proofs.Answering.{few_looks, more_looks}
 use Rattle.ledger_acts.proofs.MovesOnce.{always_told}

@@ -1,5 +1,5 @@
 -- The rows that a transfer reads make a part that agrees with the whole book.
-use Rattle.std.proofs.Common.{◌≡◌, ℕ, ◌+◌, ◌<◌, ◌≤◌, ◌^◌, ◌==◌, ◌&&◌, ◌||◌, not, nat_le, length, Bool, true, false, if◌then◌else◌, List, [], ◌∷◌, Option, Some, None, is_some, IsTrue, refl, sym, ap, subst, ◌∙◌, arith}
+use Rattle.std.proofs.Common.{◌≡◌, ℕ, ◌<◌, ◌^◌, ◌==◌, ◌&&◌, ◌||◌, not, nat_le, length, Bool, true, false, if◌then◌else◌, List, [], ◌∷◌, Option, Some, None, is_some, IsTrue, refl, sym, ap, subst, ◌∙◌, arith}
 use Rattle.std.specs.Option.{option_or, option_map, option_and_then, option_map_or}
 use Rattle.std.specs.Str.{bytes_eq}
 use Rattle.std.proofs.lemmas.Bool.{ne_eqb}
@@ -9,15 +9,14 @@ use Rattle.dh_base.proofs.SameIds.{same_id-self, same_id-swap, id_from_same}
 use Rattle.dh_base.specs.declared.outcome.Outcome.{Outcome}
 use Rattle.escrow_book.specs.declared.change.Change.TheVariants.{Transferred}
 use Rattle.escrow_book.specs.declared.known_deal.KnownDeal.{KnownDeal}
-use Rattle.escrow_book.specs.declared.fault.BookFault.{BookFault}
 use Rattle.escrow_book.specs.declared.fault.BookFault.TheVariants as book
 use Rattle.escrow_book.specs.declared.row.HoldRow.{HoldRow}
 use Rattle.escrow_book.specs.declared.row.MovesRow.{MovesRow}
 use Rattle.escrow_book.specs.declared.row.BookRow.{BookRow}
-use Rattle.escrow_book.specs.declared.row.BookRow.TheVariants.{Deal, Hold, Moves}
+use Rattle.escrow_book.specs.declared.row.BookRow.TheVariants.{Deal, Moves}
 use Rattle.escrow_book.specs.Base.{greatest_turn}
-use Rattle.escrow_book.specs.History.{History, with_change, parties_of, settlement_of, is_in, is_among, moves_of, if_commit_of, if_abort_of}
-use Rattle.escrow_book.specs.Reached.{IsReached, IsGrown, IsAccepted, are_parties, are_different}
+use Rattle.escrow_book.specs.History.{History, parties_of, settlement_of, is_in, is_among, moves_of, if_commit_of, if_abort_of}
+use Rattle.escrow_book.specs.Reached.{IsReached, IsGrown, are_parties, are_different}
 use Rattle.escrow_book.specs.Refused.{transfer_refusal}
 use Rattle.escrow_book.specs.Part.{AgreeOnTransfer, SaySameHold}
 use Rattle.escrow_book.specs.PartRows.{no_rows, first_fault, are_not_bad, part_of, first_in, deal_in, moves_in, hold_in}

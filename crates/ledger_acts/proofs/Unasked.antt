@@ -1,5 +1,5 @@
 -- An act that names another ledger or house is refused before its keeper is asked.
-use Rattle.std.proofs.Common.{◌≡◌, ℕ, ◌<◌, Bool, true, false, if◌then◌else◌, List, [], ◌∷◌, Option, Some, None, Err, refl, sym, ap, subst, ◌∙◌, arith}
+use Rattle.std.proofs.Common.{◌≡◌, ℕ, Bool, true, false, if◌then◌else◌, List, [], Option, Some, None, Err, refl, ap, subst, ◌∙◌, arith}
 use Rattle.std.specs.Option.{option_or}
 use Rattle.std.specs.Str.{bytes_eq}
 use Rattle.dh_base.specs.declared.id.Id.{Id}
@@ -9,14 +9,13 @@ use Rattle.act_text.specs.declared.act.Act.TheVariants as act
 use Rattle.keeper_core.specs.declared.change.Change.{Change}
 use Rattle.keeper_core.specs.Tables.{Tables}
 use Rattle.keeper_core.specs.Knowing.{Known}
-use Rattle.keeper_core.specs.Leaving.{Ended, refused}
-use Rattle.keeper_core.specs.Stepping.{IsRefusal, commits_unless}
+use Rattle.keeper_core.specs.Leaving.{refused}
+use Rattle.keeper_core.specs.Stepping.{commits_unless}
 use Rattle.keeper_core.proofs.Leaving.{not_asked}
 use Rattle.keeper_core.proofs.Stepping.{reads_leave}
 use Rattle.ledger_acts.specs.declared.ledger_fault.LedgerFault.{LedgerFault}
 use Rattle.ledger_acts.specs.declared.ledger_fault.LedgerFault.TheVariants.{BadEnvelope, BadAct, KeyReused, WrongLedger, BadDeal, WrongHouse, UnknownDeal, NotAParty, DealsFull, DealSettled, WrongTurn, ZeroOrSelf, Short, LedgerFull, Store}
 use Rattle.ledger_acts.specs.declared.ledger_id.LedgerId.{LedgerId}
-use Rattle.ledger_acts.specs.LedgerFaults.{of_ledger_fault}
 use Rattle.ledger_acts.specs.LedgerStep.{wrong_ledger, wrong_house}
 use Rattle.ledger_acts.specs.ByRows.{ByRows}
 use Rattle.ledger_acts.specs.Movements.{head_refusal, headed}

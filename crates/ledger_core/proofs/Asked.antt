@@ -1,16 +1,16 @@
 -- A call that is answered by tables is answered by the history that they stand for.
-use Rattle.std.proofs.Common.{◌≡◌, ℕ, ◌+◌, ◌≤◌, List, [], Option, Some, None, IfSome, IsSome, Result, Ok, Err, refl, sym, ap, subst, ◌∙◌, arith}
+use Rattle.std.proofs.Common.{◌≡◌, ℕ, ◌≤◌, List, [], Option, Some, None, IfSome, IsSome, Result, Ok, Err, sym, subst, ◌∙◌, arith}
 use Rattle.keeper_core.specs.Tables.{Tables}
-use Rattle.keeper_core.specs.Knowing.{Known, LooksAtMost}
+use Rattle.keeper_core.specs.Knowing.{Known}
 use Rattle.keeper_core.specs.Leaving.{Ended, done, failed, starved, refused, ended, KeepsTold, Leaves, Halts}
-use Rattle.keeper_core.specs.Stepping.{WhereTold, IsReply, IsRefusal, Backs}
+use Rattle.keeper_core.specs.Stepping.{IsReply, IsRefusal, Backs}
 use Rattle.keeper_core.proofs.Leaving.{applies_same, none_made, is_told, not_told}
 use Rattle.keeper_core.proofs.Stepping.{was_told}
 use Rattle.ledger_rows.specs.declared.entry.Entry.{Entry}
 use Rattle.ledger_rows.specs.Asking.{Asks}
 use Rattle.ledger_acts.specs.LedgerStep.{Opened}
 use Rattle.ledger_acts.specs.LedgerState.{IsState}
-use Rattle.ledger_core.specs.Questions.{Tells, TellsBy}
+use Rattle.ledger_core.specs.Questions.{TellsBy}
 
 -- ---- what is told
 

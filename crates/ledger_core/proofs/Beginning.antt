@@ -1,12 +1,9 @@
 -- Tables that were empty stand for the history without entries, once they are filled.
-use Rattle.std.proofs.Common.{◌≡◌, ℕ, ◌+◌, ◌<◌, ◌≤◌, ◌&&◌, not, Bool, true, false, cond, if◌then◌else◌, nat_lt, nat_le, List, [], ◌∷◌, ◌++◌, map, length, Option, Some, None, IfSome, IsTrue, refl, sym, ap, subst, ◌∙◌, arith, append-nil, append_assoc}
-use Rattle.std.specs.Int.{w64}
+use Rattle.std.proofs.Common.{◌≡◌, ℕ, ◌+◌, ◌&&◌, not, Bool, true, false, cond, if◌then◌else◌, nat_lt, List, [], ◌∷◌, ◌++◌, length, Option, Some, None, IsTrue, refl, sym, ap, subst, ◌∙◌, arith, append-nil, append_assoc}
 use Rattle.std.specs.Str.{bytes_eq}
-use Rattle.std.specs.List.{sum_by, list_any, AllByRecursion}
 use Rattle.std.specs.List.Sorted.{IsStrictlySortedBy}
-use Rattle.std.specs.Option.{option_map}
 use Rattle.std.specs.FinMap.{get, empty, get-empty}
-use Rattle.std.proofs.lemmas.Bool.{cases_Bool, and_parts, or_parts}
+use Rattle.std.proofs.lemmas.Bool.{and_parts, or_parts}
 use Rattle.std.proofs.lemmas.List.Sums.{sum_by_push, sum_by-cons}
 use Rattle.std.proofs.lemmas.Slice.Eq.{bytes_eq-Decides}
 use Rattle.dh_base.specs.declared.id.Id.{Id}
@@ -14,23 +11,21 @@ use Rattle.dh_base.specs.Ids.{same_id}
 use Rattle.dh_base.specs.Names.{is_name}
 use Rattle.dh_base.proofs.SameIds.{same_id-self}
 use Rattle.escrow_book.specs.Opening.{Row, row_amount, opening_of, has_row, is_good_row, are_good_rows, is_good_opening, first_bad_row}
-use Rattle.escrow_book.specs.History.{History, free_of, if_commit_of, if_abort_of, moves_of}
-use Rattle.escrow_book.specs.Reached.{started, IsReached}
+use Rattle.escrow_book.specs.History.{free_of}
+use Rattle.escrow_book.specs.Reached.{started}
 use Rattle.escrow_book.proofs.OpeningRows.{good_or_bad}
-use Rattle.keeper_core.specs.declared.change.Change.{Change}
 use Rattle.keeper_core.specs.declared.change.Change.TheVariants.{Put}
 use Rattle.keeper_core.specs.Tables.{Cell, cell_cmp, Tables, rows_of}
 use Rattle.keeper_core.specs.Batches.{after_batch, after_change}
-use Rattle.keeper_core.specs.NumberedRows.{IsNumbered}
 use Rattle.keeper_core.proofs.Batched.{at_itself}
 use Rattle.keeper_core.proofs.OneListing.{is_the_scan}
-use Rattle.ledger_rows.specs.RowKeys.{free_tab, deal_tab, hold_tab, moves_tab, used_tab, entry_tab, free_key, first_id, behind_id, last_id, asset_in, is_free_key, is_hold_key, is_used_key}
+use Rattle.ledger_rows.specs.RowKeys.{free_tab, deal_tab, hold_tab, moves_tab, used_tab, entry_tab, free_key, first_id, behind_id, asset_in, is_free_key, is_hold_key, is_used_key}
 use Rattle.ledger_rows.specs.RowChanges.{free_change}
-use Rattle.ledger_rows.specs.LedgerTables.{free_value, hold_value, moves_value, free_row, hold_of, hold_row, moves_row, deal_row, used_row, StandsFor}
-use Rattle.ledger_rows.proofs.Cells.{same_cell, cell_is, change_at, free_at, picked, same_rows}
+use Rattle.ledger_rows.specs.LedgerTables.{free_value, hold_value, free_row, hold_of, hold_row, used_row, StandsFor}
+use Rattle.ledger_rows.proofs.Cells.{same_cell, cell_is, change_at, free_at, picked}
 use Rattle.ledger_rows.proofs.RowsKept.{free_row_is, kept_free, apart}
 use Rattle.ledger_acts.specs.LedgerStep.{Opened}
-use Rattle.ledger_acts.specs.LedgerState.{form_tab, form_key, form_text, IsState}
+use Rattle.ledger_acts.specs.LedgerState.{form_tab, form_key, IsState}
 use Rattle.ledger_core.specs.Opens.{opening_changes, begin_changes}
 use Rattle.ledger_core.specs.Openings.{AreSpelled}
 

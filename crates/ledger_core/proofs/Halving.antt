@@ -1,23 +1,21 @@
 -- Halving finds the number of entries.
-use Rattle.std.proofs.Common.{◌≡◌, ℕ, zero, suc, ◌+◌, ◌-◌, ◌*◌, ◌/◌, ◌<◌, ◌≤◌, ◌^◌, Bool, true, false, List, [], ◌∷◌, length, slice_get, Option, Some, None, is_some, IfSome, IsSome, Ok, Err, refl, sym, ap, subst, ◌∙◌, arith}
+use Rattle.std.proofs.Common.{◌≡◌, ℕ, zero, suc, ◌+◌, ◌-◌, ◌*◌, ◌/◌, ◌<◌, ◌≤◌, ◌^◌, Bool, true, false, List, [], ◌∷◌, length, slice_get, Option, None, is_some, IfSome, Ok, refl, sym, ap, ◌∙◌, arith}
 use Rattle.std.proofs.Math.Nat.{pow-succ', one-le-pow}
-use Rattle.std.specs.Int.{w64, byte_len, to_be_bytes}
+use Rattle.std.specs.Int.{w64, to_be_bytes}
 use Rattle.std.specs.FinMap.{get}
 use Rattle.keeper_core.specs.Tables.{Tables}
 use Rattle.keeper_core.specs.Knowing.{Known, LooksAtMost}
-use Rattle.keeper_core.specs.Leaving.{Ended, done, of_store_fault, ended, Leaves}
+use Rattle.keeper_core.specs.Leaving.{done, of_store_fault, Leaves}
 use Rattle.keeper_core.specs.NumberedRows.{IsNumbered}
 use Rattle.keeper_core.specs.Stepping.{WhereTold, IsReply}
-use Rattle.keeper_core.specs.declared.store_fault.StoreFault.{StoreFault}
-use Rattle.keeper_core.proofs.Leaving.{not_asked, then_any, then_read}
+use Rattle.keeper_core.proofs.Leaving.{not_asked}
 use Rattle.keeper_core.proofs.NumberedOn.{stands_under_number}
 use Rattle.keeper_core.proofs.Stepping.{was_told}
 use Rattle.ledger_rows.specs.Asking.{Asks}
 use Rattle.ledger_rows.specs.RowKeys.{entry_tab, entry_key}
 use Rattle.ledger_rows.proofs.RowReads.{look_keeps}
 use Rattle.ledger_rows.proofs.RowReads as reads
-use Rattle.ledger_core.specs.Opens.{most_entries, CountsWithin, CountsEntries}
-use Rattle.ledger_core.proofs.Asked.{told_always, told_on}
+use Rattle.ledger_core.specs.Opens.{most_entries, CountsWithin}
 
 -- ---- widths
 

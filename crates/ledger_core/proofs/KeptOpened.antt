@@ -1,14 +1,11 @@
 -- What is kept is what is opened.
-use Rattle.std.proofs.Common.{◌≡◌, ℕ, ◌+◌, ◌-◌, ◌*◌, ◌<◌, ◌≤◌, ◌==◌, ◌&&◌, Bool, true, false, cond, if◌then◌else◌, List, [], ◌∷◌, ◌++◌, map, length, Option, Some, None, is_some, IfSome, IfOk, Result, Ok, Err, refl, sym, ap, subst, ◌∙◌, arith, inl, inr}
-use Rattle.sha2.proofs.Facts256.{length-sha256}
-use Rattle.std.specs.Int.{w64}
+use Rattle.std.proofs.Common.{◌≡◌, ℕ, ◌+◌, ◌<◌, ◌==◌, ◌&&◌, Bool, true, false, cond, if◌then◌else◌, List, [], ◌∷◌, map, length, Option, Some, None, is_some, IfSome, Result, Ok, Err, refl, sym, ap, subst, ◌∙◌, arith, inl, inr}
 use Rattle.std.specs.List.{count_by}
 use Rattle.std.specs.Option.{option_map, option_or}
-use Rattle.std.specs.FinMap.{get, empty, get-empty}
+use Rattle.std.specs.FinMap.{empty, get-empty}
 use Rattle.std.proofs.lemmas.List.{length-map}
 use Rattle.std.proofs.lemmas.List.Sums.{sum_by-cons}
 use Rattle.dh_base.specs.declared.id.Id.{Id}
-use Rattle.dh_base.specs.Ids.{same_id}
 use Rattle.dh_base.proofs.SameIds.{same_id-self}
 use Rattle.act_text.specs.declared.act.Act.{Act}
 use Rattle.act_text.specs.declared.act.Act.TheVariants.{Register, Pay, Escrow, Transfer, StartDeal, Vote}
@@ -23,21 +20,19 @@ use Rattle.escrow_book.proofs.OpeningRows.{good_or_bad}
 use Rattle.keeper_core.specs.declared.change.Change.{Change}
 use Rattle.keeper_core.specs.declared.row.Row.{Row as KeptRow}
 use Rattle.keeper_core.specs.Tables.{Tables, cell_cmp}
-use Rattle.keeper_core.specs.Batches.{after_batch}
 use Rattle.keeper_core.specs.Knowing.{Known}
-use Rattle.keeper_core.specs.Leaving.{Ended, done, ended, after_batches, Applies}
-use Rattle.keeper_core.specs.NumberedRows.{IsNumbered}
+use Rattle.keeper_core.specs.Leaving.{done, ended, after_batches, Applies}
 use Rattle.keeper_core.specs.StoreFaults.{bad_row_of}
 use Rattle.keeper_core.specs.Stepping.{AtMostOne, IsReply, Backs, Steps, commits_unless}
-use Rattle.keeper_core.proofs.Leaving.{is_told, not_told}
+use Rattle.keeper_core.proofs.Leaving.{is_told}
 use Rattle.keeper_core.proofs.Stepping.{was_told, steps}
 use Rattle.ledger_rows.specs.declared.entry.Entry.{Entry}
 use Rattle.ledger_rows.specs.declared.entry.Entry.TheVariants.{Act as Accepted, Settlement}
-use Rattle.ledger_rows.specs.Entries.{digest_of, parties_in, with_read, with_entry, with_entries, book_of}
-use Rattle.ledger_rows.specs.RowKeys.{entry_tab, deal_tab}
+use Rattle.ledger_rows.specs.Entries.{digest_of, parties_in, with_read, with_entry, with_entries}
+use Rattle.ledger_rows.specs.RowKeys.{deal_tab}
 use Rattle.ledger_rows.specs.RowReading.{row_of}
 use Rattle.ledger_rows.specs.RowValues.{entry_text}
-use Rattle.ledger_rows.specs.Scanning.{settled_rows, is_settlement}
+use Rattle.ledger_rows.specs.Scanning.{is_settlement}
 use Rattle.ledger_rows.proofs.OpenCounted.{deals_counted}
 use Rattle.ledger_rows.proofs.SettledCounted.{settled_counted}
 use Rattle.ledger_acts.specs.LedgerStep.{Opened, is_act, acts_of}
@@ -49,7 +44,7 @@ use Rattle.ledger_core.specs.declared.opens.Counts.{Counts}
 use Rattle.ledger_core.specs.FormRows.{form_in, form_said}
 use Rattle.ledger_core.specs.OpenFaults.{of_open_fault}
 use Rattle.ledger_core.specs.Openings.{AreSpelled}
-use Rattle.ledger_core.specs.Opens.{most_entries, deal_rows, deals_refusal, AreCounts, AreCountsFor, AreCountsOf, no_counts, begin_changes, bad_opening, kept_refusal, open_refusal, batches_for, open_batches, OpensByRows, OpensKept, OpensEmpty}
+use Rattle.ledger_core.specs.Opens.{most_entries, deals_refusal, AreCounts, AreCountsFor, AreCountsOf, no_counts, begin_changes, bad_opening, kept_refusal, open_refusal, batches_for, open_batches, OpensByRows, OpensKept, OpensEmpty}
 use Rattle.ledger_core.proofs.Asked.{told_both, told_on, reply_on}
 use Rattle.ledger_core.proofs.Beginning.{begins}
 use Rattle.ledger_core.proofs.OpenCalls.{store_not_done}

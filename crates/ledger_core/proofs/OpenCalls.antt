@@ -1,7 +1,7 @@
 -- Opening a ledger by the tables: what each of its endings answers and leaves.
-use Rattle.std.proofs.Common.{◌≡◌, ℕ, ◌+◌, ◌==◌, Bool, true, false, if◌then◌else◌, List, [], ◌∷◌, length, Option, Some, None, is_some, IfSome, IsSome, IfErr, Result, Ok, Err, refl, sym, ap, subst, ◌∙◌, arith, inl, inr}
-use Rattle.std.specs.Option.{option_map, option_or}
-use Rattle.std.proofs.lemmas.Bool.{cases_Bool, eqb-true}
+use Rattle.std.proofs.Common.{◌≡◌, ℕ, ◌+◌, ◌==◌, Bool, true, false, if◌then◌else◌, List, [], ◌∷◌, length, Option, Some, None, is_some, IfErr, Result, Ok, Err, refl, sym, ap, subst, ◌∙◌, arith}
+use Rattle.std.specs.Option.{option_map}
+use Rattle.std.proofs.lemmas.Bool.{eqb-true}
 use Rattle.dh_base.specs.declared.id.Id.{Id}
 use Rattle.dh_base.specs.Ids.{same_id}
 use Rattle.escrow_book.specs.Opening.{Row}
@@ -12,8 +12,8 @@ use Rattle.keeper_core.specs.declared.store_fault.StoreFault.TheVariants as stor
 use Rattle.keeper_core.specs.Tables.{Tables}
 use Rattle.keeper_core.specs.Knowing.{Known, LooksAtMost}
 use Rattle.keeper_core.specs.Leaving.{Ended, done, failed, starved, refused, ended, of_store_fault, Leaves}
-use Rattle.keeper_core.specs.Stepping.{LeavesBy, IsReply, IsRefusal, commits_unless}
-use Rattle.keeper_core.specs.StoreFaults.{HasCause, bad_row_of}
+use Rattle.keeper_core.specs.Stepping.{IsReply, IsRefusal, commits_unless}
+use Rattle.keeper_core.specs.StoreFaults.{HasCause}
 use Rattle.keeper_core.proofs.Leaving.{not_asked}
 use Rattle.keeper_core.proofs.Stepping.{was_told, reads_leave, call_leaves}
 use Rattle.ledger_rows.specs.Asking.{Asks}

@@ -1,7 +1,6 @@
 -- What a party has made and owns in a deal, by the rows and by the history.
-use Rattle.std.proofs.Common.{◌≡◌, ℕ, ◌+◌, ◌<◌, ◌≤◌, ◌^◌, ◌==◌, Bool, true, false, if◌then◌else◌, List, [], ◌∷◌, ◌++◌, length, Option, Some, None, Result, Ok, Err, refl, sym, ap, subst, ◌∙◌, arith}
+use Rattle.std.proofs.Common.{◌≡◌, ℕ, ◌<◌, ◌≤◌, ◌^◌, ◌==◌, Bool, true, false, if◌then◌else◌, List, [], ◌++◌, length, Option, Some, None, Result, Ok, Err, refl, sym, ap, subst, ◌∙◌, arith}
 use Rattle.std.specs.Option.{option_map}
-use Rattle.std.specs.FinMap.{get}
 use Rattle.std.proofs.lemmas.Bool.{eqb-true, eqb-false}
 use Rattle.dh_base.specs.declared.id.Id.{Id}
 use Rattle.act_text.specs.declared.statement.HeldRow.{HeldRow}
@@ -13,7 +12,7 @@ use Rattle.escrow_book.proofs.Whole.{grown}
 use Rattle.keeper_core.specs.declared.store_fault.StoreFault.{StoreFault}
 use Rattle.keeper_core.specs.Tables.{Tables}
 use Rattle.keeper_core.specs.Knowing.{Known}
-use Rattle.keeper_core.specs.Leaving.{Ended, done, of_store_fault, ended}
+use Rattle.keeper_core.specs.Leaving.{done, of_store_fault, ended}
 use Rattle.keeper_core.specs.Stepping.{WhereTold, IsReply, IsRefusal}
 use Rattle.keeper_core.proofs.Leaving.{then_any}
 use Rattle.keeper_core.proofs.Stepping.{was_told}

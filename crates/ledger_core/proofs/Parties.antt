@@ -1,6 +1,6 @@
 -- Who is a party of a deal, by its text.
-use Rattle.std.proofs.Common.{◌≡◌, ℕ, ◌+◌, ◌<◌, ◌≤◌, ◌||◌, Bool, true, false, if◌then◌else◌, List, [], ◌∷◌, map, length, Option, Some, None, is_some, IfOk, Result, Ok, Err, refl, sym, ap, subst, ◌∙◌, arith}
-use Rattle.std.specs.List.{list_any, AllByRecursion}
+use Rattle.std.proofs.Common.{◌≡◌, ℕ, ◌+◌, ◌<◌, ◌||◌, Bool, true, false, if◌then◌else◌, List, [], ◌∷◌, map, length, Option, Some, None, is_some, IfOk, Result, Ok, Err, refl, sym, ap, subst, ◌∙◌, arith}
+use Rattle.std.specs.List.{AllByRecursion}
 use Rattle.std.specs.Option.{option_or}
 use Rattle.dh_base.specs.declared.id.Id.{Id}
 use Rattle.dh_base.specs.Ids.{same_id}
@@ -14,12 +14,12 @@ use Rattle.deal_core.specs.declared.deal_fault.DealFault.{DealFault}
 use Rattle.deal_core.specs.declared.deal_fault.DealFault.TheVariants.{BadLine, PartyTwice, UnknownParty, SelfStep, ZeroAmount, TooMany, SumTooLarge, NotConnected, NoMemory}
 use Rattle.deal_core.specs.declared.party.Party.{Party}
 use Rattle.deal_core.specs.Deals.{DealTold, IsJoined, has_account, party_where, index_of_account}
-use Rattle.deal_core.specs.Drafts.{Draft, accounts_in, reading_of}
+use Rattle.deal_core.specs.Drafts.{Draft, accounts_in}
 use Rattle.deal_core.specs.Reading.{IsTextOf, IsFaultOf, draft_of}
 use Rattle.escrow_book.specs.History.{is_in}
 use Rattle.ledger_rows.specs.declared.entry.Entry.{Entry}
 use Rattle.ledger_rows.specs.declared.entry.Entry.TheVariants.{Act as Accepted, Settlement}
-use Rattle.ledger_rows.specs.Entries.{digest_of, parties_in, registered_by_act, registered_by, registration_of}
+use Rattle.ledger_rows.specs.Entries.{digest_of, registered_by_act, registered_by, registration_of}
 use Rattle.ledger_acts.specs.LedgerState.{RegistersDeal}
 use Rattle.ledger_core.specs.Statements.{TellsParty}
 

@@ -1,5 +1,5 @@
 -- What an account can spend, by the rows and by the history.
-use Rattle.std.proofs.Common.{◌≡◌, ℕ, List, length, Option, None, Result, refl, sym, ◌∙◌}
+use Rattle.std.proofs.Common.{◌≡◌, ℕ, List, length, Option, None, Result, sym, ◌∙◌}
 use Rattle.act_text.specs.declared.statement.HeldRow.{HeldRow}
 use Rattle.dh_base.specs.declared.id.Id.{Id}
 use Rattle.escrow_book.specs.History.{free_of}

@@ -1,19 +1,16 @@
 -- A statement is made of what a party has and how its deal has ended.
-use Rattle.std.proofs.Common.{◌≡◌, List, [], length, Option, Some, None, IfSome, IsSome, Result, Ok, Err, refl}
+use Rattle.std.proofs.Common.{◌≡◌, List, [], length, Option, Some, None, IfSome, IsSome, Ok, Err, refl}
 use Rattle.dh_base.specs.declared.id.Id.{Id}
 use Rattle.dh_base.specs.declared.outcome.Outcome.{Outcome}
-use Rattle.act_text.specs.declared.statement.Statement.{Statement}
 use Rattle.keeper_core.specs.declared.store_fault.StoreFault.{StoreFault}
 use Rattle.keeper_core.specs.Tables.{Tables}
 use Rattle.keeper_core.specs.Knowing.{Known}
 use Rattle.keeper_core.specs.Leaving.{Ended, done, of_store_fault, Leaves}
-use Rattle.keeper_core.specs.Stepping.{IsReply}
 use Rattle.keeper_core.proofs.Leaving.{if_some}
 use Rattle.keeper_core.proofs.Stepping.{was_told}
 use Rattle.ledger_rows.specs.declared.entry.Entry.{Entry}
 use Rattle.ledger_rows.specs.Entries.{book_of}
 use Rattle.ledger_acts.specs.LedgerStep.{Opened}
-use Rattle.ledger_core.specs.declared.ask_fault.AskFault.{AskFault}
 use Rattle.ledger_core.specs.declared.ask_fault.AskFault.TheVariants.{Store}
 use Rattle.ledger_core.specs.declared.asking.Owned.{Owned}
 use Rattle.ledger_core.specs.declared.asking.Standing.{Standing}

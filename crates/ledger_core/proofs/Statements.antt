@@ -1,49 +1,32 @@
 -- What a party of a deal is told, by the rows and by the history.
-use Rattle.std.proofs.Common.{◌≡◌, ℕ, ◌+◌, ◌<◌, ◌≤◌, ◌^◌, ◌==◌, Bool, true, false, if◌then◌else◌, List, [], ◌∷◌, ◌++◌, length, Option, Some, None, is_some, IfSome, IsSome, Result, Ok, Err, refl, sym, ap, subst, ◌∙◌, arith}
-use Rattle.std.specs.Option.{option_map, option_or}
-use Rattle.std.specs.FinMap.{get}
-use Rattle.std.proofs.lemmas.Bool.{eqb-true, eqb-false}
+use Rattle.std.proofs.Common.{◌≡◌, ℕ, Bool, true, false, if◌then◌else◌, List, [], Option, Some, None, Result, Ok, Err, refl, sym, ap, subst, ◌∙◌}
+use Rattle.std.specs.Option.{option_map}
 use Rattle.dh_base.specs.declared.id.Id.{Id}
 use Rattle.dh_base.specs.declared.outcome.Outcome.{Outcome}
-use Rattle.act_text.specs.declared.statement.HeldRow.{HeldRow}
-use Rattle.escrow_book.specs.Base.{greatest_turn}
-use Rattle.escrow_book.specs.History.{History, is_in, if_commit_of, moves_of, settlement_of}
-use Rattle.escrow_book.proofs.Bounds.{moves_within}
-use Rattle.escrow_book.proofs.Steps.{base_of}
-use Rattle.escrow_book.proofs.Whole.{grown}
+use Rattle.escrow_book.specs.History.{History, is_in, settlement_of}
 use Rattle.keeper_core.specs.declared.store_fault.StoreFault.{StoreFault}
 use Rattle.keeper_core.specs.declared.store_fault.StoreFault.TheVariants as store
 use Rattle.keeper_core.specs.Tables.{Tables}
-use Rattle.keeper_core.specs.Knowing.{Known, LooksAtMost}
+use Rattle.keeper_core.specs.Knowing.{Known}
 use Rattle.keeper_core.specs.Leaving.{Ended, done, failed, starved, refused, ended, of_store_fault, Leaves}
-use Rattle.keeper_core.specs.Stepping.{WhereTold, IsReply, IsRefusal, Backs}
+use Rattle.keeper_core.specs.Stepping.{WhereTold, IsReply, IsRefusal}
 use Rattle.keeper_core.proofs.Stepping.{was_told}
 use Rattle.ledger_rows.specs.declared.entry.Entry.{Entry}
-use Rattle.ledger_rows.specs.declared.move_count.MoveCount.{MoveCount}
 use Rattle.ledger_rows.specs.declared.registration.Registration.{Registration}
-use Rattle.ledger_rows.specs.Asking.{Asks}
 use Rattle.ledger_rows.specs.Entries.{parties_in, registration_of, book_of}
-use Rattle.ledger_rows.specs.LedgerTables.{moves_value}
-use Rattle.ledger_rows.specs.RowKeys.{hold_tab, moves_tab, deal_tab, deal_key, moves_key}
-use Rattle.ledger_rows.specs.RowValues.{moves_in, moves_text, registration_in}
-use Rattle.ledger_rows.specs.RowReading.{Reads, ReadsRow, LacksForm, row_of, form_refusal, count_said, deal_said, deal_refusal, moves_said, moves_refusal}
-use Rattle.ledger_rows.specs.Scanning.{rows_in, scan_refusal, amount_at, some_of, AreAmounts}
+use Rattle.ledger_rows.specs.RowKeys.{deal_tab, deal_key}
+use Rattle.ledger_rows.specs.RowValues.{registration_in}
+use Rattle.ledger_rows.specs.RowReading.{ReadsRow, form_refusal, deal_said, deal_refusal}
 use Rattle.ledger_rows.proofs.DealRows.{registration_with, deal_says, deal_formed}
-use Rattle.ledger_rows.proofs.RowsKept.{moves_row_is}
-use Rattle.ledger_rows.proofs.RowReads.{look_keeps}
-use Rattle.ledger_rows.proofs.ScansStand.{holds_scanned, hold_amounts}
-use Rattle.ledger_rows.proofs.ValuesSpelled.{spelled_moves}
 use Rattle.ledger_acts.specs.LedgerStep.{Opened}
 use Rattle.ledger_acts.specs.LedgerState.{IsState}
 use Rattle.ledger_core.specs.declared.ask_fault.AskFault.{AskFault}
 use Rattle.ledger_core.specs.declared.ask_fault.AskFault.TheVariants.{UnknownDeal, NotAParty, Store}
-use Rattle.ledger_core.specs.declared.asking.Owned.{Owned}
 use Rattle.ledger_core.specs.AskFaults.{of_ask_fault}
-use Rattle.ledger_core.specs.Questions.{Tells, TellsBy}
-use Rattle.ledger_core.specs.Statements.{TellsParty, not_a_party, statement_refusal, AreOwned}
+use Rattle.ledger_core.specs.Questions.{TellsBy}
+use Rattle.ledger_core.specs.Statements.{TellsParty, not_a_party, statement_refusal}
 use Rattle.ledger_core.proofs.Asked.{keeps_map, still_backs, told_both}
 use Rattle.ledger_core.proofs.Parties.{registered_text}
-use Rattle.ledger_core.proofs.Spendable.{same_amounts}
 
 -- ---- from what was read to the history
 

@@ -1,5 +1,5 @@
 -- Behind an accepted act a ledger is at the later entries.
-use Rattle.std.proofs.Common.{◌≡◌, ◌⊎◌, ℕ, ◌+◌, ◌-◌, ◌*◌, ◌<◌, ◌≤◌, ◌^◌, ◌==◌, ◌&&◌, Bool, true, false, cond, if◌then◌else◌, List, [], ◌∷◌, ◌++◌, length, Option, Some, None, IfSome, OnOk, Result, Ok, Err, inl, inr, refl, sym, ap, subst, ◌∙◌, arith}
+use Rattle.std.proofs.Common.{◌≡◌, ◌⊎◌, ℕ, ◌+◌, ◌-◌, ◌<◌, ◌≤◌, ◌^◌, ◌==◌, ◌&&◌, Bool, true, false, cond, if◌then◌else◌, List, [], ◌∷◌, ◌++◌, length, Option, Some, None, IfSome, Result, Ok, Err, inl, inr, refl, sym, ap, subst, ◌∙◌, arith}
 use Rattle.std.specs.Option.{option_or}
 use Rattle.std.proofs.lemmas.List.{length-append}
 use Rattle.std.proofs.lemmas.List.Sums.{sum_by-append}
@@ -23,12 +23,11 @@ use Rattle.ledger_acts.specs.declared.ledger_id.LedgerId.{LedgerId}
 use Rattle.ledger_acts.specs.declared.place.Place.{Place}
 use Rattle.ledger_acts.specs.LedgerFaults.{of_ledger_fault}
 use Rattle.ledger_acts.specs.LedgerState.{IsState}
-use Rattle.ledger_acts.specs.LedgerStep.{Opened, is_act, acts_of, most_acts, kept_reply, StepsBy, ActSteps, MessageSteps, LedgerStep, Unsaid, Said}
-use Rattle.ledger_acts.specs.Steps.{IsNext, refusal_in, Replies, IsCutShort, StepsByEnvelope, SubmitsByStep}
-use Rattle.ledger_core.specs.declared.act_reply.ActReply.{ActReply}
+use Rattle.ledger_acts.specs.LedgerStep.{Opened, is_act, acts_of, kept_reply, StepsBy, ActSteps, MessageSteps, LedgerStep, Unsaid, Said}
+use Rattle.ledger_acts.specs.Steps.{IsNext, refusal_in, IsCutShort, StepsByEnvelope, SubmitsByStep}
 use Rattle.ledger_core.specs.declared.act_reply.ActReply.TheVariants.{Done}
 use Rattle.ledger_core.specs.Ledgers.{LedgerTold, IsAt}
-use Rattle.ledger_core.specs.Submits.{number_in, StepsFrom, SubmitsFrom}
+use Rattle.ledger_core.specs.Submits.{StepsFrom, SubmitsFrom}
 
 -- ---- which entry a key has signed
 

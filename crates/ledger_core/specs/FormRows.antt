@@ -1,6 +1,5 @@
 -- The row that says what a keeper's tables are.
 use Rattle.std.specs.Prelude.{ℕ, ◌==◌, ◌&&◌, if◌then◌else◌, List, length, drop, slice_index, Option, Some, None}
-use Rattle.dh_base.specs.declared.id.Id.{Id}
 use Rattle.keeper_core.specs.Tables.{Tables}
 use Rattle.ledger_rows.specs.RowReading.{row_at}
 use Rattle.ledger_acts.specs.LedgerState.{form_tab, form_key}

@@ -3,7 +3,6 @@ use Rattle.std.specs.Prelude.{ℕ, ◌≡◌, List, ◌++◌, map, length, IsTru
 use Rattle.std.specs.Int.{w64, to_be_bytes}
 use Rattle.std.specs.List.{flat_map, AllByRecursion}
 use Rattle.cert_core.specs.Sets.{set_text, id_of_set}
-use Rattle.dh_base.specs.declared.id.Id.{Id}
 use Rattle.dh_base.specs.Fields.{name_field}
 use Rattle.dh_base.specs.Names.{is_name}
 use Rattle.escrow_book.specs.Opening.{Row}

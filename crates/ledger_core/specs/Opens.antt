@@ -2,7 +2,7 @@
 use Rattle.std.specs.Prelude.{ℕ, ◌≡◌, ◌+◌, ◌-◌, ◌<◌, ◌≤◌, ◌==◌, Bool, false, if◌then◌else◌, List, [], ◌∷◌, map, length, Option, Some, None, is_some, IfSome, IfOk, Result, Ok, Err}
 use Rattle.std.specs.Int.{w64}
 use Rattle.std.specs.Option.{option_map, option_or}
-use Rattle.std.specs.FinMap.{get, empty}
+use Rattle.std.specs.FinMap.{empty}
 use Rattle.dh_base.specs.declared.id.Id.{Id}
 use Rattle.dh_base.specs.Ids.{same_id}
 use Rattle.escrow_book.specs.Opening.{Row, first_bad_row}
@@ -13,12 +13,12 @@ use Rattle.keeper_core.specs.declared.store_fault.StoreFault.{StoreFault}
 use Rattle.keeper_core.specs.declared.store_fault.StoreFault.TheVariants as store
 use Rattle.keeper_core.specs.Tables.{Tables, rows_of}
 use Rattle.keeper_core.specs.Knowing.{Known, LooksAtMost}
-use Rattle.keeper_core.specs.Leaving.{Ended, ended}
+use Rattle.keeper_core.specs.Leaving.{ended}
 use Rattle.keeper_core.specs.NumberedRows.{IsNumbered}
 use Rattle.keeper_core.specs.Stepping.{WhereTold, LeavesBy, IsReply, Backs, commits_unless}
 use Rattle.keeper_core.specs.StoreFaults.{bad_row_of, HasCause}
 use Rattle.ledger_rows.specs.declared.entry.Entry.{Entry}
-use Rattle.ledger_rows.specs.RowKeys.{deal_tab, entry_tab, entry_key}
+use Rattle.ledger_rows.specs.RowKeys.{deal_tab, entry_tab}
 use Rattle.ledger_rows.specs.RowValues.{registration_in}
 use Rattle.ledger_rows.specs.RowChanges.{free_change}
 use Rattle.ledger_rows.specs.RowReading.{forms_refusal, is_formed}

@@ -1,5 +1,5 @@
 -- What a ledger answers to questions: by its tables, and by the history that they stand for.
-use Rattle.std.specs.Prelude.{ℕ, ◌≡◌, ◌+◌, if◌then◌else◌, List, length, Option, Some, None, is_some, IfSome, Result, Err}
+use Rattle.std.specs.Prelude.{ℕ, ◌+◌, if◌then◌else◌, List, length, Option, Some, None, is_some, IfSome, Result}
 use Rattle.std.specs.Option.{option_map, option_or}
 use Rattle.dh_base.specs.declared.id.Id.{Id}
 use Rattle.dh_base.specs.declared.outcome.Outcome.{Outcome}
@@ -15,7 +15,7 @@ use Rattle.ledger_rows.specs.RowReading.{LacksForm, deal_said, deal_refusal}
 use Rattle.ledger_acts.specs.LedgerStep.{Opened}
 use Rattle.ledger_acts.specs.LedgerState.{IsState}
 use Rattle.ledger_core.specs.declared.ask_fault.AskFault.{AskFault}
-use Rattle.ledger_core.specs.declared.ask_fault.AskFault.TheVariants.{UnknownDeal, NotAParty, Store}
+use Rattle.ledger_core.specs.declared.ask_fault.AskFault.TheVariants.{UnknownDeal, Store}
 
 -- how many rows a call may look up beside those of a table
 abbrev pub rows_beside : ℕ → Tables → ℕ

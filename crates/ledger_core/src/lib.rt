@@ -25,7 +25,6 @@ pub use opening::{OpenRow, Opening};
 pub use refused::Refused;
 
 #[cfg(test)]
-mod tests;
-
-#[cfg(test)]
 mod submitting_tests;
+#[cfg(test)]
+mod tests;

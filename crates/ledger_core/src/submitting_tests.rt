@@ -87,11 +87,7 @@ fn ask(
     Ok(ledger.submit(env))
 }
 
-fn ben_has(
-    rt: &impl Abort,
-    ledger: &mut Ledger<MemKeeper>,
-    amount: u64,
-) -> Result<(), Fail> {
+fn ben_has(rt: &impl Abort, ledger: &mut Ledger<MemKeeper>, amount: u64) -> Result<(), Fail> {
     let rows = ledger.account(&BEN)?;
     assert_eq!(rt; rows.as_slice().len(), 1);
     assert!(rt; matches!(rows.as_slice().first(), Some(row) if row.amount == amount));

@@ -1,11 +1,11 @@
 -- What the rows of a table list, by assets.
-use Rattle.std.proofs.Common.{◌≡◌, ℕ, ◌+◌, ◌-◌, ◌<◌, ◌==◌, ◌&&◌, Bool, true, false, cond, if◌then◌else◌, List, [], ◌∷◌, ◌++◌, map, length, take, drop, Option, Some, None, IsTrue, MatchOption, refl, sym, ap, subst, ◌∙◌, arith, inl, inr, ◌↔◌, zero, suc, get_or, drop-cons, append-nil}
-use Rattle.std.specs.BTreeMap.{BTreeMap, get, IsOrdered, Updates, is_at}
+use Rattle.std.proofs.Common.{◌≡◌, ℕ, ◌+◌, ◌<◌, ◌==◌, ◌&&◌, Bool, true, false, cond, if◌then◌else◌, List, [], ◌∷◌, ◌++◌, map, length, take, drop, Option, Some, None, IsTrue, MatchOption, refl, sym, ap, subst, ◌∙◌, arith, inl, inr, ◌↔◌, zero, suc, get_or, drop-cons, append-nil}
+use Rattle.std.specs.BTreeMap.{BTreeMap, get, IsOrdered, Updates}
 use Rattle.std.specs.Cmp.Lexicographic.{slice_cmp, texts_ties, nat_list_cmp_total}
 use Rattle.std.specs.List.{Contains}
 use Rattle.std.specs.List.Sorted.{IsStrictlySortedBy}
 use Rattle.std.specs.Option.{option_or}
-use Rattle.std.specs.Ordering.{nat_cmp, eq_by_cmp}
+use Rattle.std.specs.Ordering.{nat_cmp}
 use Rattle.std.specs.Str.{bytes_eq}
 use Rattle.std.proofs.lemmas.Bool.{cases_Bool, and_parts, eqb-true}
 use Rattle.std.proofs.lemmas.List.{take_at, drop_at, take-append-drop}

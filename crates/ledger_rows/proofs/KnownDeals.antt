@@ -2,7 +2,6 @@
 use Rattle.std.proofs.Common.{◌≡◌, ℕ, Bool, true, false, if◌then◌else◌, List, [], ◌∷◌, ◌++◌, Option, Some, None, is_some, Result, Ok, Err, refl, sym, ap, ◌∙◌}
 use Rattle.std.specs.Option.{option_map, option_or}
 use Rattle.dh_base.specs.declared.id.Id.{Id}
-use Rattle.dh_base.specs.declared.outcome.Outcome.{Outcome}
 use Rattle.dh_base.specs.Ids.{same_id}
 use Rattle.dh_base.proofs.SameIds.{id_from_same}
 use Rattle.act_text.specs.declared.act.Act.{Act}
@@ -12,7 +11,7 @@ use Rattle.act_text.specs.declared.office.Office.TheVariants.{Ledger}
 use Rattle.act_text.specs.ActReading.{act_of}
 use Rattle.escrow_book.specs.declared.change.Change.{Change}
 use Rattle.escrow_book.specs.declared.change.Change.TheVariants.{Registered, Escrowed, Transferred, Paid, Settled}
-use Rattle.escrow_book.specs.Base.{Carried, nothing_carried}
+use Rattle.escrow_book.specs.Base.{Carried}
 use Rattle.escrow_book.specs.Opening.{Row}
 use Rattle.escrow_book.specs.History.{History, with_change, registration, settlement, parties_of, settlement_of, is_known}
 use Rattle.escrow_book.specs.Reached.{started, registered, IsGrown, IsReached, IsAccepted}

@@ -1,9 +1,8 @@
 -- As many deals of an account are open by the rows as by the entries.
-use Rattle.std.proofs.Common.{◌≡◌, ℕ, ◌+◌, ◌&&◌, not, Bool, true, false, cond, if◌then◌else◌, List, [], ◌∷◌, ◌++◌, length, Option, Some, None, is_some, Result, Ok, Err, refl, sym, ap, subst, ◌∙◌, append-nil, append_assoc, arith, inl, inr}
+use Rattle.std.proofs.Common.{◌≡◌, ℕ, ◌+◌, ◌&&◌, not, Bool, true, false, if◌then◌else◌, List, [], ◌∷◌, ◌++◌, Option, Some, None, is_some, Result, Ok, Err, refl, sym, ap, subst, ◌∙◌, append-nil, append_assoc, arith, inl, inr}
 use Rattle.std.specs.List.{Contains, count_by, AllByRecursion}
 use Rattle.std.specs.List.Sorted.{IsStrictlySortedBy}
 use Rattle.std.specs.Option.{option_map, option_or}
-use Rattle.std.specs.FinMap.{get}
 use Rattle.std.proofs.lemmas.Bool.{cases_Bool}
 use Rattle.std.proofs.lemmas.List.Sums.{sum_by-cons}
 use Rattle.dh_base.specs.declared.id.Id.{Id}
@@ -27,7 +26,7 @@ use Rattle.ledger_rows.specs.declared.entry.Entry.TheVariants.{Act as Accepted, 
 use Rattle.ledger_rows.specs.declared.registration.Registration.{Registration}
 use Rattle.ledger_rows.specs.Entries.{digest_of, registered_by_act, registered_by, registration_of, book_of}
 use Rattle.ledger_rows.specs.LedgerTables.{deal_row, StandsFor}
-use Rattle.ledger_rows.specs.OpenDeals.{deal_of, deal_by, is_new_open, open_behind, open_deals, is_open_if, is_open_by, is_open_row, open_rows, OpenDealsCounted}
+use Rattle.ledger_rows.specs.OpenDeals.{deal_of, deal_by, is_new_open, open_behind, open_deals, is_open_if, is_open_by, is_open_row, open_rows}
 use Rattle.ledger_rows.specs.RowKeys.{deal_tab}
 use Rattle.ledger_rows.specs.RowReading.{first_formless}
 use Rattle.ledger_rows.specs.RowValues.{registration_text, registration_in, EntryFits}

@@ -1,5 +1,5 @@
 -- Tables stand for the history with an accepted registration, once its changes are made.
-use Rattle.std.proofs.Common.{◌≡◌, ℕ, ◌+◌, ◌<◌, ◌^◌, Bool, true, false, if◌then◌else◌, List, [], ◌∷◌, ◌++◌, length, Option, Some, None, is_some, Result, Ok, refl, sym, ap, subst, ◌∙◌, inl, inr}
+use Rattle.std.proofs.Common.{◌≡◌, ℕ, ◌+◌, ◌<◌, ◌^◌, Bool, true, false, if◌then◌else◌, List, [], ◌∷◌, ◌++◌, length, Option, Some, None, is_some, Result, Ok, refl, sym, ap, ◌∙◌, inl, inr}
 use Rattle.std.specs.Option.{option_map, option_or}
 use Rattle.std.specs.FinMap.{get}
 use Rattle.std.proofs.lemmas.Bool.{cases_Bool}
@@ -14,8 +14,8 @@ use Rattle.act_text.specs.ActReading.{act_of}
 use Rattle.escrow_book.specs.declared.change.Change.{Change as BookChange}
 use Rattle.escrow_book.specs.declared.change.Change.TheVariants.{Registered}
 use Rattle.escrow_book.specs.Opening.{Row}
-use Rattle.escrow_book.specs.History.{History, with_change, parties_of, settlement_of, is_known}
-use Rattle.escrow_book.specs.Reached.{registered, are_parties, IsReached, IsAccepted}
+use Rattle.escrow_book.specs.History.{History, with_change, settlement_of, is_known}
+use Rattle.escrow_book.specs.Reached.{are_parties, IsReached, IsAccepted}
 use Rattle.escrow_book.proofs.Lookups.{or_none, settlement_kept}
 use Rattle.escrow_book.proofs.Whole.{grown}
 use Rattle.escrow_book.proofs.Parts.{free_untouched, if_commit_untouched, if_abort_untouched, moves_untouched}
@@ -34,7 +34,7 @@ use Rattle.ledger_rows.specs.ActChanges.{IsNew, act_changes, new_registration, r
 use Rattle.ledger_rows.proofs.Cells.{same_cell, cell_is, change_at, picked}
 use Rattle.ledger_rows.proofs.RowsKept.{kept_free, kept_hold, kept_moves, registrations_more, kept_deal}
 use Rattle.ledger_rows.proofs.Histories.{one_act_more}
-use Rattle.ledger_rows.proofs.ActsStand.{Readied, any_act_stands}
+use Rattle.ledger_rows.proofs.ActsStand.{any_act_stands}
 use Rattle.ledger_rows.proofs.KnownDeals.{no_parties, known_is_registered, unknown_open}
 
 module _ (tables : Tables) (opening : List Row) (entries : List Entry) (account : Id) (q : ℕ) (message : List ℕ) (text : List ℕ)

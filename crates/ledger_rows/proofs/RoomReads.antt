@@ -1,19 +1,19 @@
 -- Counting the open deals of an account unless a deal is registered: what each ending answers and leaves.
-use Rattle.std.proofs.Common.{◌≡◌, ℕ, ◌+◌, ◌≤◌, Bool, true, false, List, [], length, Option, Some, None, is_some, IfSome, IsSome, Result, Ok, Err, refl, sym, ap, subst, ◌∙◌, arith}
+use Rattle.std.proofs.Common.{◌≡◌, ℕ, ◌+◌, ◌≤◌, true, false, [], length, Option, Some, None, is_some, IfSome, IsSome, Result, Ok, Err, refl, sym, ap, subst, ◌∙◌, arith}
 use Rattle.std.specs.Option.{option_map, option_or}
 use Rattle.dh_base.specs.declared.id.Id.{Id}
 use Rattle.keeper_core.specs.declared.store_fault.StoreFault.{StoreFault}
 use Rattle.keeper_core.specs.Knowing.{Known, LooksAtMost}
-use Rattle.keeper_core.specs.Leaving.{Ended, done, of_store_fault, KeepsTold, Leaves}
+use Rattle.keeper_core.specs.Leaving.{done, of_store_fault, KeepsTold}
 use Rattle.keeper_core.specs.Stepping.{IsRefusal}
 use Rattle.keeper_core.specs.Tables.{Tables, rows_of}
-use Rattle.keeper_core.proofs.Leaving.{is_told, not_told, then_read, then_any}
+use Rattle.keeper_core.proofs.Leaving.{is_told, then_read, then_any}
 use Rattle.keeper_core.proofs.Stepping.{was_told}
 use Rattle.ledger_rows.specs.declared.registration.Registration.{Registration}
 use Rattle.ledger_rows.specs.OpenDeals.{open_rows, open_said, deals_refusal, unless_registered, room_said, refused_unless, room_refusal}
 use Rattle.ledger_rows.specs.RowKeys.{deal_tab}
 use Rattle.ledger_rows.specs.RowReading.{Reads, ReadsTable, LooksThrough, LacksForm, deal_said, deal_refusal}
-use Rattle.ledger_rows.proofs.RowReads.{look_keeps, told_both, told_one, first_refused, second_refused}
+use Rattle.ledger_rows.proofs.RowReads.{look_keeps, told_both, told_one, first_refused}
 
 through : (m n : ℕ) (before after : Known) → LooksAtMost m before after → m ≤ n → LooksThrough deal_tab n before after
 through m n before after looked le = (looked.0, loosened before.tables after.tables)

@@ -1,20 +1,19 @@
 -- What a scan of a table answers and leaves.
-use Rattle.std.proofs.Common.{◌≡◌, ℕ, ◌+◌, ◌&&◌, Bool, true, false, if◌then◌else◌, List, [], ◌∷◌, ◌++◌, length, Option, Some, None, IfSome, IfErr, Result, Ok, Err, refl, sym, ap, subst, ◌∙◌, arith, inl, inr, ◌⊎◌}
+use Rattle.std.proofs.Common.{◌≡◌, ℕ, ◌+◌, ◌&&◌, Bool, true, false, if◌then◌else◌, List, [], ◌∷◌, ◌++◌, length, Option, Some, None, IfSome, Ok, Err, refl, sym, ap, subst, ◌∙◌, arith, inl, inr, ◌⊎◌}
 use Rattle.std.specs.List.{Contains}
 use Rattle.std.specs.Option.{option_map, option_or, option_and_then}
 use Rattle.std.specs.FinMap.{get}
 use Rattle.std.specs.Str.{bytes_eq}
-use Rattle.std.proofs.lemmas.Bool.{cases_Bool, and_parts}
+use Rattle.std.proofs.lemmas.Bool.{cases_Bool}
 use Rattle.std.proofs.lemmas.Slice.Eq.{bytes_eq-Decides}
 use Rattle.dh_base.specs.Fields.{name_field}
 use Rattle.dh_base.specs.Names.{is_name}
 use Rattle.keeper_core.specs.declared.row.Row.{Row}
 use Rattle.keeper_core.specs.declared.store_fault.StoreFault.{StoreFault}
-use Rattle.keeper_core.specs.declared.store_fault.StoreFault.TheVariants as store
 use Rattle.keeper_core.specs.Keeping.{ListsTable}
 use Rattle.keeper_core.specs.Knowing.{Known, LooksAtMost}
-use Rattle.keeper_core.specs.Leaving.{Ended, done, failed, starved, refused, of_store_fault, Leaves}
-use Rattle.keeper_core.specs.Stepping.{WhereTold, IsReply, IsRefusal}
+use Rattle.keeper_core.specs.Leaving.{Ended, done, starved, refused, of_store_fault, Leaves}
+use Rattle.keeper_core.specs.Stepping.{WhereTold, IsRefusal}
 use Rattle.keeper_core.specs.StoreFaults.{bad_row_of, HasCause}
 use Rattle.keeper_core.specs.Tables.{Tables, rows_of}
 use Rattle.keeper_core.proofs.Leaving.{if_some, read_and}

@@ -1,5 +1,5 @@
 -- What a scan says over tables that stand for a history.
-use Rattle.std.proofs.Common.{◌≡◌, ℕ, ◌+◌, ◌<◌, ◌≤◌, ◌^◌, ◌==◌, ◌&&◌, Bool, true, false, if◌then◌else◌, List, [], ◌∷◌, ◌++◌, length, take, drop, Option, Some, None, is_some, IsTrue, refl, sym, ap, subst, ◌∙◌, arith, append_assoc, append-nil}
+use Rattle.std.proofs.Common.{◌≡◌, ℕ, ◌+◌, ◌<◌, ◌≤◌, ◌^◌, ◌==◌, ◌&&◌, Bool, true, false, if◌then◌else◌, List, [], ◌∷◌, ◌++◌, length, Option, Some, None, is_some, refl, sym, ap, ◌∙◌, arith, append_assoc, append-nil}
 use Rattle.std.specs.Int.{w64, to_be_bytes, from_be_bytes}
 use Rattle.std.specs.List.{Contains}
 use Rattle.std.specs.Option.{option_map, option_and_then}
@@ -29,7 +29,7 @@ use Rattle.ledger_rows.specs.RowKeys.{free_tab, hold_tab, free_key, hold_key, fi
 use Rattle.ledger_rows.specs.RowValues.{number_from, free_in, free_text, hold_in, hold_text}
 use Rattle.ledger_rows.specs.RowReading.{is_formed}
 use Rattle.ledger_rows.specs.Entries.{book_of}
-use Rattle.ledger_rows.specs.LedgerTables.{free_value, hold_value, hold_of, free_row, hold_row, StandsFor}
+use Rattle.ledger_rows.specs.LedgerTables.{free_value, hold_value, hold_of, StandsFor}
 use Rattle.ledger_rows.specs.Scanning.{first_unformed, scan_refusal, amount_in, above_zero, amount_at, some_of}
 use Rattle.ledger_rows.proofs.ValuesSpelled.{spelled_free, spelled_hold}
 use Rattle.ledger_rows.proofs.RowsKept.{free_row_is, hold_row_is}

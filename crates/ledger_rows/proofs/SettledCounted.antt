@@ -15,10 +15,10 @@ use Rattle.act_text.specs.declared.office.Office.TheVariants.{Ledger}
 use Rattle.act_text.specs.ActReading.{act_of}
 use Rattle.escrow_book.specs.declared.change.Change.{Change}
 use Rattle.escrow_book.specs.declared.change.Change.TheVariants.{Registered, Escrowed, Transferred, Paid, Settled}
-use Rattle.escrow_book.specs.Base.{Base, Carried}
+use Rattle.escrow_book.specs.Base.{Carried}
 use Rattle.escrow_book.specs.Opening.{Row as OpeningRow}
 use Rattle.escrow_book.specs.History.{History, with_change, settlement, parties_of, settlement_of, is_known}
-use Rattle.escrow_book.specs.Reached.{started, registered, IsAccepted, AreAccepted, IsReached}
+use Rattle.escrow_book.specs.Reached.{started, IsAccepted, AreAccepted, IsReached}
 use Rattle.escrow_book.proofs.Accepting.{settle_accepted}
 use Rattle.escrow_book.proofs.Lookups.{or_none, parties_stay, settlement_push}
 use Rattle.escrow_book.proofs.Steps.{history, base_of}
@@ -27,8 +27,7 @@ use Rattle.keeper_core.specs.Tables.{Tables, rows_of}
 use Rattle.keeper_core.proofs.Scanned.{scans_ascend, scans_list_the_map}
 use Rattle.ledger_rows.specs.declared.entry.Entry.{Entry}
 use Rattle.ledger_rows.specs.declared.entry.Entry.TheVariants.{Act as Accepted, Settlement}
-use Rattle.ledger_rows.specs.declared.registration.Registration.{Registration}
-use Rattle.ledger_rows.specs.Entries.{digest_of, parties_in, with_act, with_read, with_entry, with_entries, book_of, registration_of}
+use Rattle.ledger_rows.specs.Entries.{digest_of, parties_in, with_read, with_entry, with_entries, book_of, registration_of}
 use Rattle.ledger_rows.specs.LedgerTables.{deal_row, StandsFor}
 use Rattle.ledger_rows.specs.RowKeys.{deal_tab}
 use Rattle.ledger_rows.specs.RowValues.{registration_text, registration_in, EntryFits}
@@ -135,7 +134,7 @@ module _ (tables : Tables) (opening : List OpeningRow) (entries : List Entry) (s
   quiet : (front : List Change) (c : Change) → is_ending c ≡ false → Claim front → Claim (front ++ c ∷ [])
   quiet front c none claim =
       let same = counts_same (ended_by (front ++ c ∷ [])) (ended_by front) rows (λ row there.
-          ap (λ (o : Option Outcome). is_some o) (settlement_push (past front) c (deal_in row) ∙ ap (option_or (settlement_of (past front) (deal_in row))) (settles_none c (deal_in row) none) ∙ or_none (settlement_of (past front) (deal_in row)))) in
+      ap (λ (o : Option Outcome). is_some o) (settlement_push (past front) c (deal_in row) ∙ ap (option_or (settlement_of (past front) (deal_in row))) (settles_none c (deal_in row) none) ∙ or_none (settlement_of (past front) (deal_in row)))) in
       omega (arith, same, claim, one_ending front c, ap one_if none)
 
   step : (front rest : List Change) (c : Change) → front ++ c ∷ rest ≡ book.changes → IsAccepted (past front) c → Claim front → Claim (front ++ c ∷ [])

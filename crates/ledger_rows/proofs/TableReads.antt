@@ -1,8 +1,7 @@
 -- What reading all rows of a table answers and leaves.
-use Rattle.std.proofs.Common.{◌≡◌, ℕ, ◌+◌, ◌≤◌, ◌&&◌, Bool, true, false, if◌then◌else◌, List, [], ◌∷◌, length, Option, Some, None, is_some, IfSome, Result, Ok, Err, MatchResult, refl, sym, ap, subst, ◌∙◌}
+use Rattle.std.proofs.Common.{◌≡◌, ℕ, ◌+◌, ◌≤◌, ◌&&◌, if◌then◌else◌, List, [], ◌∷◌, length, Option, Some, None, is_some, Result, Ok, Err, MatchResult, refl, sym, ap, subst, ◌∙◌}
 use Rattle.std.specs.List.{Contains}
 use Rattle.std.specs.Option.{option_map}
-use Rattle.std.specs.FinMap.{get}
 use Rattle.keeper_core.specs.declared.row.Row.{Row}
 use Rattle.keeper_core.specs.declared.store_fault.StoreFault.{StoreFault}
 use Rattle.keeper_core.specs.Keeping.{ListsTable}
@@ -10,7 +9,7 @@ use Rattle.keeper_core.specs.Knowing.{Known, LooksAtMost}
 use Rattle.keeper_core.specs.Leaving.{done, refused, Leaves}
 use Rattle.keeper_core.specs.Stepping.{WhereTold}
 use Rattle.keeper_core.specs.StoreFaults.{bad_row_of}
-use Rattle.keeper_core.specs.Tables.{Tables, rows_of}
+use Rattle.keeper_core.specs.Tables.{rows_of}
 use Rattle.keeper_core.proofs.Leaving.{if_some, read_and}
 use Rattle.keeper_core.proofs.OneListing.{here, later_on}
 use Rattle.keeper_core.proofs.Scanned.{scans_list_the_map}

@@ -1,4 +1,4 @@
-use Rattle.std.proofs.Common.{◌≡◌, Ok, Err, refl, inr, sym, ◌∙◌, subst, List, ℕ}
+use Rattle.std.proofs.Common.{◌≡◌, Ok, Err, refl, inr, ◌∙◌, subst, List, ℕ}
 use Rattle.deal_core.specs.Reading.{IsFaultOf}
 use Rattle.deal_log.proofs.Rebuilt.{no_other}
 use Rattle.deal_log.proofs.rebuilding.keep_text.Goals as goal

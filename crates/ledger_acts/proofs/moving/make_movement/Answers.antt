@@ -1,4 +1,4 @@
-use Rattle.std.proofs.Common.{rules, ◌≡◌, Result, Err, None, sym, subst, arith}
+use Rattle.std.proofs.Common.{rules, ◌≡◌, Result, Err, None, sym, subst}
 use Rattle.keeper_core.specs.StoreFaults.{store_fault_of}
 use Rattle.ledger_rows.specs.ActChanges.{act_changes}
 use Rattle.ledger_acts.specs.declared.ledger_fault.LedgerFault.{LedgerFault}

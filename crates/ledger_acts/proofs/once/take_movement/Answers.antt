@@ -1,9 +1,9 @@
-use Rattle.std.proofs.Common.{rules, ◌≡◌, Option, None, Some, Result, Err, sym, subst}
+use Rattle.std.proofs.Common.{rules, ◌≡◌, Option, None, Result, Err, sym, subst}
 use Rattle.keeper_core.specs.Tables.{Tables}
 use Rattle.ledger_rows.specs.ActChanges.{act_changes}
 use Rattle.ledger_acts.specs.declared.ledger_fault.LedgerFault.{LedgerFault}
 use Rattle.ledger_acts.specs.ByRows.{ByRows, act_refusal, act_batches}
-use Rattle.ledger_acts.specs.Movements.{movement_looks, head_refusal, headed, moving, MovesByRows}
+use Rattle.ledger_acts.specs.Movements.{movement_looks, headed, moving, MovesByRows}
 use Rattle.ledger_acts.proofs.Unasked.{unasked}
 use Rattle.ledger_acts.proofs.once.take_movement.Goals as goal
 

@@ -1,4 +1,4 @@
-use Rattle.std.proofs.Common.{◌≡◌, ℕ, ◌≤◌, Option, Some, None, sym, subst, arith}
+use Rattle.std.proofs.Common.{ℕ, ◌≤◌, Option, Some, sym, subst, arith}
 use Rattle.ledger_rows.specs.RowKeys.{deal_tab}
 use Rattle.ledger_acts.specs.Steps.{LeavesByRows}
 use Rattle.ledger_acts.proofs.Submits.{left_by, moves_else}

@@ -1,4 +1,4 @@
-use Rattle.std.proofs.Common.{◌≡◌, ◌+◌, None, sym}
+use Rattle.std.proofs.Common.{◌+◌, None, sym}
 use Rattle.ledger_acts.specs.Movements.{movement_looks}
 use Rattle.ledger_acts.proofs.Submits.{left_by, few_rows}
 use Rattle.ledger_acts.proofs.submitting.submit_movement.Goals as goal

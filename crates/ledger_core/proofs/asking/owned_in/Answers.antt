@@ -1,5 +1,4 @@
-use Rattle.std.proofs.Common.{rules, ◌≡◌, ◌++◌, List, ℕ, Result, Ok, Err, sym, subst, ap, ◌∙◌}
-use Rattle.act_text.specs.declared.statement.HeldRow.{HeldRow}
+use Rattle.std.proofs.Common.{rules, ◌≡◌, List, ℕ, Result, Ok, Err, sym, subst, ◌∙◌}
 use Rattle.keeper_core.specs.declared.store_fault.StoreFault.{StoreFault}
 use Rattle.keeper_core.specs.Leaving.{of_store_fault}
 use Rattle.ledger_rows.specs.Asking.{Asks}

@@ -1,4 +1,4 @@
-use Rattle.std.proofs.Common.{rules, ◌≡◌, List, ℕ, Bool, true, false, Option, Some, Result, Ok, Err, sym, subst}
+use Rattle.std.proofs.Common.{rules, ◌≡◌, List, ℕ, Option, Some, Result, Ok, Err, sym, subst}
 use Rattle.dh_base.specs.declared.outcome.Outcome.{Outcome}
 use Rattle.keeper_core.specs.Leaving.{refused}
 use Rattle.keeper_core.proofs.Leaving.{read_and}

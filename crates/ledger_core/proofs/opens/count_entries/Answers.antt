@@ -1,4 +1,4 @@
-use Rattle.std.proofs.Common.{◌≡◌, ◌+◌, ◌/◌, ◌≤◌, ℕ, [], arith, sym, subst, ap, ◌∙◌}
+use Rattle.std.proofs.Common.{◌+◌, ◌/◌, ◌≤◌, ℕ, [], arith, sym, subst}
 use Rattle.keeper_core.specs.Leaving.{done}
 use Rattle.keeper_core.specs.Stepping.{WhereTold}
 use Rattle.keeper_core.proofs.Leaving.{then_any}

@@ -1,9 +1,9 @@
-use Rattle.std.proofs.Common.{◌≡◌, List, ℕ, Option, sym, subst, ap, Some, ◌∙◌}
+use Rattle.std.proofs.Common.{◌≡◌, List, ℕ, sym, subst}
 use Rattle.std.specs.BTreeMap.{BTreeMap, get}
 use Rattle.std.specs.Cmp.Lexicographic.{slice_cmp}
 use Rattle.std.specs.Option.{option_or}
 use Rattle.std.specs.Ordering.{nat_cmp}
-use Rattle.ledger_rows.specs.Scanning.{listed_by, listed}
+use Rattle.ledger_rows.specs.Scanning.{listed_by}
 use Rattle.ledger_rows.proofs.HeldRows.{one_more, none_more, put_one}
 use Rattle.ledger_rows.proofs.held_rows.amounts_of.Goals as goal
 use Rattle.ledger_rows.proofs.held_rows.amounts_of.Goals.{in-Some+in_ok-insert-in-Some, in-None}

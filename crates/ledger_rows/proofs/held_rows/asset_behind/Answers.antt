@@ -1,5 +1,4 @@
-use Rattle.std.proofs.Common.{rules}
-use Rattle.ledger_rows.proofs.HeldRows.{no_front, asset_found, AssetBehind}
+use Rattle.ledger_rows.proofs.HeldRows.{no_front, asset_found}
 use Rattle.ledger_rows.proofs.held_rows.asset_behind.Goals as goal
 
 pub returns-in_err-strip_prefix : goal.returns-in_err-strip_prefix

@@ -1,4 +1,4 @@
-use Rattle.std.proofs.Common.{◌≡◌, Some, ap, sym, ◌∙◌}
+use Rattle.std.proofs.Common.{Some, ap, sym, ◌∙◌}
 use Rattle.deal_core.specs.Deals.{DealTold}
 use Rattle.deal_log.proofs.ReadTexts.{house_read}
 use Rattle.deal_log.proofs.deal_text.DealText.house.Goals as goal

@@ -1,7 +1,6 @@
-use Rattle.std.proofs.Common.{◌≡◌, ap, ◌∙◌}
+use Rattle.std.proofs.Common.{ap, ◌∙◌}
 use Rattle.std.specs.FinMap.{insert}
 use Rattle.dh_base.specs.declared.id.Id.{Id}
-use Rattle.deal_log.specs.DealTexts.{id_in}
 use Rattle.deal_log.proofs.ReadTexts.{put_bytes}
 use Rattle.deal_log.proofs.deal_texts.DealTexts.put.Goals as goal
 

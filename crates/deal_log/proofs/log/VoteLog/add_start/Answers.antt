@@ -1,6 +1,5 @@
 use Rattle.std.proofs.Common.{Some, ap, sym, ◌∙◌, subst}
 use Rattle.vote_log.specs.Log.{Log}
-use Rattle.deal_log.specs.DealTexts.{TextMap}
 use Rattle.deal_log.specs.VoteLogs.{VoteLogTold}
 use Rattle.deal_log.proofs.Kept.{IsKeptWith, kept_start, taken_back}
 use Rattle.deal_log.proofs.log.VoteLog.add_start.Goals as goal

@@ -1,7 +1,5 @@
 use Rattle.std.proofs.Common.{[], refl, sym, subst}
-use Rattle.std.specs.FinMap.{empty}
 use Rattle.vote_log.specs.Log.{Log}
-use Rattle.deal_log.specs.DealTexts.{TextMap}
 use Rattle.deal_log.specs.VoteLogs.{most_records}
 use Rattle.deal_log.proofs.Kept.{IsKeptWith, no_texts}
 use Rattle.deal_log.proofs.log.VoteLog.new.Goals as goal

@@ -1,4 +1,4 @@
-use Rattle.std.proofs.Common.{◌≡◌, ℕ, ◌+◌, ◌-◌, ◌<◌, ◌≤◌, ◌^◌, Result, Ok, Err, sym, ap, subst}
+use Rattle.std.proofs.Common.{◌≡◌, ◌+◌, ◌-◌, ◌<◌, ◌≤◌, ◌^◌, Ok, Err, sym, ap, subst}
 use Rattle.ledger_acts.specs.Steps.{SubmitsByStep}
 use Rattle.ledger_core.specs.declared.act_reply.ActReply.TheVariants.{Done}
 use Rattle.ledger_core.specs.Ledgers.{LedgerTold}
