@@ -4,12 +4,14 @@
 //! - `opening`: openings; `form_row`: the row by which tables name theirs; `opens`: opening a ledger
 //!   over tables; `refused`: a keeper that comes back
 //! - `ask_fault`, `open_fault`: why a ledger answers no question, and why it isn't opened
+//! - `laws`: what a ledger conserves
 #![tactic(auto)]
 
 pub mod act_reply;
 pub mod ask_fault;
 mod asking;
 mod form_row;
+pub mod laws;
 pub mod ledger;
 pub mod open_fault;
 pub mod opening;
