@@ -40,7 +40,8 @@ use Rattle.ledger_core.specs.FormRows.{form_in, form_said}
 abbrev pub most_entries : ℕ
 most_entries = 2097152
 
--- If the rows of entries are numbered, they are so many, from the one number on and below the other.
+-- If the rows of entries are numbered, they are so many, from the one number on and below the
+-- other.
 abbrev pub CountsWithin : ℕ → ℕ → Tables → Type 0
 CountsWithin from below tables = (vals : List (List ℕ)) → IsNumbered w64 entry_tab 1 vals tables →
     length vals < most_entries → (from ≤ length vals) × (length vals < below)

@@ -16,7 +16,8 @@ use Rattle.ledger_core.specs.Ledgers.{LedgerTold}
 
 -- the text is a deal's, and this says whether the account is a party of it
 abbrev pub TellsParty : List ℕ → Id → Bool → Type 0
-TellsParty text party is = (deal : DealTold) → IsTextOf deal text → is ≡ is_in party (parties_in text)
+TellsParty text party is =
+    (deal : DealTold) → IsTextOf deal text → is ≡ is_in party (parties_in text)
 
 abbrev pub not_a_party : Id → Option (Id × List ℕ) → Option AskFault
 not_a_party party None = Some UnknownDeal
@@ -37,8 +38,8 @@ pub record IsStanding (book : History) (deal party : Id) (standing : Standing) :
   pub settled : standing.settled ≡ settlement_of book deal
   pub owned : AreOwned book deal party standing.owned
 
--- The statement names the ledger, the deal and the party, and tells how many entries the ledger has,
--- what the party has made and owns, and how the deal has ended.
+-- The statement names the ledger, the deal and the party, and tells how many entries the ledger
+-- has, what the party has made and owns, and how the deal has ended.
 pub record IsStatement {K : Type 0} (ledger : LedgerTold K) (deal party : Id) (book : History)
     (statement : Statement) : Type 0 where
   pub house : statement.house ≡ ledger.house

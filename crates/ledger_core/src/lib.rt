@@ -1,8 +1,8 @@
 //! Ledgers: they keep assets for parties, and take acts in signed envelopes, each once.
 //!
 //! - `ledger`: ledgers; `act_reply`: what they reply to acts; `asking`: questions to them
-//! - `opening`: openings; `form_row`: the row by which tables name theirs; `opens`: opening a ledger
-//!   over tables; `refused`: a keeper that comes back
+//! - `opening`: openings; `form_row`: the row by which tables name theirs; `opens`: opening a
+//!   ledger over tables; `refused`: a keeper that comes back
 //! - `ask_fault`, `open_fault`: why a ledger answers no question, and why it isn't opened
 //! - `laws`: what a ledger conserves
 #![tactic(auto)]
