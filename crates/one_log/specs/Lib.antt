@@ -1,0 +1,4 @@
+pub mod Holders
+pub mod Houses
+pub mod Premises
+pub mod Moments
