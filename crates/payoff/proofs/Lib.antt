@@ -1,0 +1,9 @@
+pub mod Lists
+pub mod Acts
+pub mod Deals
+pub mod Rows
+pub mod Facts
+pub mod Kept
+pub mod Settlements
+pub mod Meant
+pub mod Paid

@@ -1,0 +1,4 @@
+pub mod Agents
+pub mod Worlds
+pub mod Moments
+pub mod Promise
