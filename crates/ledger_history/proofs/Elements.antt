@@ -1,28 +1,16 @@
 -- Elements of lists, amounts under equal names, and first refusals.
-use Rattle.std.proofs.Common.{◌≡◌, ℕ, zero, suc, ◌==◌, Bool, true, false, cond, ◌&&◌, Option, Some, None, List, [], ◌∷◌, Contains, refl, ap, inl, inr, ◌⊎◌, arith}
+use Rattle.std.proofs.Common.{◌≡◌, ℕ, ◌==◌, Bool, true, false, cond, ◌&&◌, Option, Some, None, List, refl, ap}
 use Rattle.std.specs.Option.{option_or}
 use Rattle.std.specs.Str.{bytes_eq}
 use Rattle.std.proofs.lemmas.Bool.{eqb-true, and_parts}
 use Rattle.std.proofs.lemmas.Slice.Eq.{bytes_eq-Decides}
+pub use Rattle.clear_core.proofs.Moved.{at_head, in_tail, head_or_tail, none_in_empty}
 use Rattle.dh_base.specs.declared.id.Id.{Id}
 use Rattle.dh_base.specs.Ids.{same_id}
 use Rattle.escrow_book.specs.History.{History, moves_of, if_commit_of}
 use Rattle.escrow_book.specs.Refused.{unknown_deal, not_a_party, deal_settled, wrong_turn, zero_or_self, short, transfer_refusal}
 use Rattle.escrow_book.specs.declared.fault.BookFault.{BookFault}
 use Rattle.escrow_book.specs.declared.fault.BookFault.TheVariants.{WrongTurn}
-
-pub at_head : {X : Type 0} (x : X) (xs : List X) → Contains (x ∷ xs) x
-at_head x xs = (0, omega arith, refl)
-
-pub in_tail : {X : Type 0} (x : X) (xs : List X) (y : X) → Contains xs y → Contains (x ∷ xs) y
-in_tail x xs y (k, lt, is) = (suc k, omega (arith, lt), is)
-
-pub head_or_tail : {X : Type 0} (x : X) (xs : List X) (y : X) → Contains (x ∷ xs) y → (x ≡ y) ⊎ Contains xs y
-head_or_tail x xs y (zero, lt, is) = inl is
-head_or_tail x xs y (suc k, lt, is) = inr (k, omega (arith, lt), is)
-
-pub none_in_empty : {X : Type 0} (y : X) → Contains [] y → ⊥
-none_in_empty y (k, lt, is) = omega (arith, lt)
 
 pub id_from_same : (a b : Id) → same_id a b ≡ true → a ≡ b
 id_from_same a b e = let inner : a.0 ≡ b.0 = (bytes_eq-Decides a.0 b.0).0 e in ap (λ (l : List ℕ). record { 0 = l }) inner

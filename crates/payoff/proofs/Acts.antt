@@ -1,5 +1,5 @@
 -- One text has one act.
-use Rattle.std.proofs.Common.{◌≡◌, ℕ, ◌==◌, cond, Result, Ok, List, get_or, refl, ap, sym, ◌∙◌}
+use Rattle.std.proofs.Common.{◌≡◌, ℕ, ◌==◌, cond, Result, Ok, List, get_or, refl, ap, sym, ◌∙◌, arith}
 use Rattle.dh_base.specs.Fields.{AreBytes}
 use Rattle.act_text.specs.declared.act.Act.{Act}
 use Rattle.act_text.specs.declared.act_fault.ActFault.{ActFault}
@@ -10,6 +10,7 @@ use Rattle.act_text.specs.declared.office.Office.TheVariants.{Ledger, Log}
 use Rattle.act_text.specs.ActTexts.{act_text, kind_of, number_of, office_of, ActFits}
 use Rattle.act_text.specs.ActReading.{act_of}
 use Rattle.act_text.proofs.ActTexts.{act-read}
+use Rattle.cert_core.specs.SeatTexts.{SeatText, Prefix, Handover, seat_text}
 
 -- who takes acts of the kind of that number
 office_numbered : ℕ → Office
@@ -35,3 +36,8 @@ one_act office message a b bytes reads fits is =
     let number : number_of (kind_of a) ≡ number_of (kind_of b) = ap (λ (l : List ℕ). get_or l 8 0) texts in
     let same : office_of (kind_of b) ≡ office = office_is (kind_of b) ∙ (ap office_numbered (sym number) ∙ (sym (office_is (kind_of a)) ∙ first.0)) in
     ok_is a b (sym reads ∙ (act-read office message b bytes).1 (same, fits, is))
+
+-- what an agent signs begins otherwise than what a seat signs
+pub no_seat_text : (text : SeatText) (act : Act) → seat_text text ≡ act_text act → ⊥
+no_seat_text (Prefix set len head) act e = let h : ◌≡◌ {A = ℕ} 80 65 = ap (λ (l : List ℕ). get_or l 3 0) e in absurd (omega arith)
+no_seat_text (Handover set len head next) act e = let h : ◌≡◌ {A = ℕ} 72 65 = ap (λ (l : List ℕ). get_or l 3 0) e in absurd (omega arith)

@@ -5,23 +5,15 @@ use Rattle.std.specs.Option.{option_map}
 use Rattle.std.proofs.lemmas.List.{append-nil}
 use Rattle.std.proofs.lemmas.List.Elements.{All-contains, All-from_recursion}
 use mathlib.Core.List.{IsPrefix}
+pub use Rattle.clear_core.proofs.Moved.{at_head, in_tail}
+use Rattle.escrow_book.proofs.Sums.{all_weaker}
+pub use Rattle.escrow_book.proofs.Sums.{all_append as every_append}
 
 pub every_weaker : {A : Type 0} (P Q : A → Type 0) → ((x : A) → P x → Q x) → (xs : List A) → AllByRecursion P xs → AllByRecursion Q xs
-every_weaker P Q f [] a = tt
-every_weaker P Q f (x ∷ xs) a = (f x a.0, every_weaker P Q f xs a.1)
-
-pub every_append : {A : Type 0} (P : A → Type 0) (xs ys : List A) → AllByRecursion P xs → AllByRecursion P ys → AllByRecursion P (xs ++ ys)
-every_append P [] ys a b = b
-every_append P (x ∷ xs) ys a b = (a.0, every_append P xs ys a.1 b)
+every_weaker P Q f xs a = all_weaker P Q xs f a
 
 pub every_at : {A : Type 0} (P : A → Type 0) (xs : List A) (x : A) → AllByRecursion P xs → Contains xs x → P x
 every_at P xs x a h = All-contains P xs x (All-from_recursion P xs a) h
-
-pub at_head : {X : Type 0} (x : X) (xs : List X) → Contains (x ∷ xs) x
-at_head x xs = (0, omega arith, refl)
-
-pub in_tail : {X : Type 0} (x : X) (xs : List X) (y : X) → Contains xs y → Contains (x ∷ xs) y
-in_tail x xs y (k, lt, is) = (suc k, omega (arith, lt), is)
 
 pub same_some : {X : Type 0} (x y : X) → Some x ≡ Some y → x ≡ y
 same_some x y e = cc

@@ -1,9 +1,12 @@
 //! Laws of runs. Each is the contract of an empty function.
 
-ghost use Rattle.std.specs.Prelude.{◌≡◌, ◌<◌, ◌≤◌, ◌++◌, ℕ, List, Some, None};
+ghost use Rattle.std.specs.Prelude.{◌≡◌, ◌≢◌, ◌<◌, ◌≤◌, ◌++◌, ℕ, List, Some, None};
 ghost use Rattle.dh_base.specs.declared.id.Id.{Id};
 ghost use Rattle.dh_base.specs.declared.outcome.Outcome.{Outcome};
 ghost use Rattle.dh_base.specs.declared.outcome.Outcome.TheVariants.{Commit};
+ghost use Rattle.act_text.specs.ActTexts.{act_text};
+ghost use Rattle.act_text.specs.declared.act.Act.{Act};
+ghost use Rattle.cert_core.specs.SeatTexts.{SeatText, seat_text};
 ghost use Rattle.clear_core.specs.Clearing.{due_of};
 ghost use Rattle.escrow_book.specs.History.{if_abort_of, payout_of, settlement_of};
 ghost use Rattle.ledger_rows.specs.declared.entry.Entry.{Entry};
@@ -20,6 +23,11 @@ use ledger_history::laws::{
     moved_no_more, plans_have_turns, settlements_pay,
 };
 use vote_log::laws::{abort_decides, first_decisive, outcome_stays};
+
+/// What an agent signs is no text of a seat.
+pub fn acts_are_no_seat_texts()
+    ensures { (text : SeatText) (act : Act) → seat_text text ≢ act_text act }
+{}
 
 /// Each settlement has the outcome that the certified log gives the deal, so no two ledgers settle
 /// a deal differently.
