@@ -1,0 +1,9 @@
+pub mod Elements
+pub mod TextsApart
+pub mod Counted
+pub mod Sound
+pub mod Validating
+pub mod Looping
+pub mod Short
+pub mod PlanSizes
+pub mod Calling

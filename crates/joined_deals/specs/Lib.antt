@@ -1,0 +1,11 @@
+pub mod DealTexts
+pub mod Signed
+pub mod Heard
+pub mod Validated
+pub mod TextSizes
+pub mod TextsKept
+pub mod AgentFaults
+pub mod Agents
+pub mod AgentSteps
+pub mod AgentLaws
+pub mod AgentCalls
