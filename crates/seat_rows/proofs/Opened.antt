@@ -93,9 +93,11 @@ module _ (tables : Tables) where
   parted : (before behind rows : List Row) (row : Row) → rows ≡ before ++ row ∷ behind → Contains rows row
   parted before behind rows row is = subst (λ (rs : List Row). Contains rs row) (sym is) (Contains-append_right before (row ∷ behind) row (here row behind))
 
-  first_in : (rows : List Row) (row : Row) → slice_get rows 0 ≡ Some row → Contains rows row
+  first_in : (found : List Row) (row : Row) → slice_get found 0 ≡ Some row → Contains found row
   first_in [] row e = absurd cc
-  first_in (first ∷ rows) row e = let same : first ≡ row = cc in subst (λ (r : Row). Contains (first ∷ rows) r) same (here first rows)
+  first_in (first ∷ more) row e =
+      let same : first ≡ row = cc in
+      subst (λ (r : Row). Contains (first ∷ more) r) same (here first more)
 
   pub lacks_stands : (place : SeatPlace) (size : ℕ) (texts : List (List ℕ)) (rows : SeatRows) (tab : ℕ) (row : Row) → used.StandsFor tables texts → rows ≡ rows_in tables → length texts ≤ 64 → Lacks place size texts rows tab row → get tables (tab, row.key) ≡ Some row.val
   lacks_stands place size texts rows tab row signed found few (LastKey state is are own full unhanded key there) =
