@@ -23,6 +23,3 @@ pub use seat_text::{handover_text, prefix_text};
 pub use set::Set;
 pub use set_fault::SetFault;
 pub use set_text::{read_set, set_id, write_set};
-
-#[cfg(test)]
-mod tests;

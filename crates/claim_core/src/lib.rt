@@ -31,6 +31,3 @@ pub use link_fault::LinkFault;
 pub use read_claim_fault::ReadClaimFault;
 pub use reading::{read_claim, read_link};
 pub use writing::{write_claim, write_link};
-
-#[cfg(test)]
-mod tests;

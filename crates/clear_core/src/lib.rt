@@ -32,6 +32,3 @@ pub use planning::plan;
 pub use summary::clearing_text;
 pub use term_fault::TermFault;
 pub use terms::Terms;
-
-#[cfg(test)]
-mod tests;

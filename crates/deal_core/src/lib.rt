@@ -30,6 +30,3 @@ pub use party::Party;
 pub use reading::{parties_in, read_deal};
 pub use step::Step;
 pub use writing::write_deal;
-
-#[cfg(test)]
-mod tests;

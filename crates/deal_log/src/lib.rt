@@ -24,6 +24,3 @@ pub use deal_text::DealText;
 pub use log::{MOST_RECORDS, VoteLog};
 pub use posting::{Posting, read_posting};
 pub use rebuild_fault::RebuildFault;
-
-#[cfg(test)]
-mod tests;

@@ -37,6 +37,3 @@ pub use fault::BookFault;
 pub use opening::first_bad_row;
 pub use part_fault::PartFault;
 pub use row::{BookRow, HoldRow, MovesRow};
-
-#[cfg(test)]
-mod tests;

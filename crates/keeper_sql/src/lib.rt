@@ -18,6 +18,3 @@ mod statements;
 
 pub use sql_keeper::SqlKeeper;
 pub use sql_store::SqlStore;
-
-#[cfg(test)]
-mod tests;

@@ -34,6 +34,3 @@ pub use said::{Said, check};
 pub use sign_fault::SignFault;
 pub use signer::Signer;
 pub use writing::{make_envelope, write_envelope};
-
-#[cfg(test)]
-mod tests;

@@ -25,8 +25,3 @@ pub use ledger_acts::LedgerFault;
 pub use open_fault::OpenFault;
 pub use opening::{OpenRow, Opening};
 pub use refused::Refused;
-
-#[cfg(test)]
-mod submitting_tests;
-#[cfg(test)]
-mod tests;

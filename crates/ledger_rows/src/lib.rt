@@ -43,6 +43,3 @@ pub use row_value::{RowValue, read_row};
 pub use scans::{count_settled, scan_held};
 pub use tables::{DEAL_TAB, ENTRY_TAB, FREE_TAB, HOLD_TAB, MOVES_TAB, USED_TAB};
 pub use used_key::UsedKey;
-
-#[cfg(test)]
-mod tests;

@@ -41,6 +41,3 @@ pub use refused_line::RefusedLine;
 pub use rule::ScriptRule;
 pub use script::{Script, read_script};
 pub use statement::Statement;
-
-#[cfg(test)]
-mod tests;

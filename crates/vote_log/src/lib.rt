@@ -34,6 +34,3 @@ pub use log_record::LogRecord;
 pub use record_fault::RecordFault;
 pub use record_texts::{RECORD_LEN, record_at, record_text};
 pub use records::Records;
-
-#[cfg(test)]
-mod tests;

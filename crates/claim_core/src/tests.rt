@@ -1,4 +1,0 @@
-//! Tests of claims.
-
-mod certifying;
-mod texts;
