@@ -162,6 +162,23 @@ fn examine(genesis: &Set, claim: &Claim) -> Result<Certified, ClaimFault>
     certified_for(&house, &mut walk, &set, claim)
 }
 
+/// The set to which a chain of links leads along the records from that set of epoch 0, or its first
+/// broken link. A seat asks it before it begins. It takes no memory.
+pub fn chain_end(genesis: &Set, recs: &[LogRecord], links: &[Link]) -> Result<Set, ClaimFault>
+    requires first { genesis.now.epoch ≡ 0 }
+    requires few { length links.now ≤ most_links }
+    requires texts { AllByRecursion (λ (link : Link). length link.set_text < 2 ^ 32) links.now }
+    // What is told has a chain that leads to it.
+    ensures leads { IfOk result
+        (ChainLeadsTo (id_of_set genesis.now) recs.now genesis.now links.now) }
+    // Which link is the first that is broken.
+    ensures exact { result ≡ last_set (id_of_set genesis.now) recs.now 0 genesis.now links.now }
+{
+    let house = set_id(genesis);
+    let mut walk = Walk::new(&house);
+    last_set(&house, recs, &mut walk, genesis, links)
+}
+
 /// What the claim certifies in the house of that set of epoch 0, or its first broken part. Ledgers
 /// ask it before they settle by a claim, and seats before they begin. It takes no memory.
 pub fn certified(genesis: &Set, claim: &Claim) -> Result<Certified, ClaimFault>

@@ -23,7 +23,7 @@ mod walk;
 pub mod writing;
 
 pub use certificate::Certified;
-pub use certifying::certified;
+pub use certifying::{certified, chain_end};
 pub use claim::Claim;
 pub use claim_fault::ClaimFault;
 pub use link::Link;

@@ -241,3 +241,37 @@ fn the_last_set_signs_a_claim(rt: HostRuntime) -> Result<(), Fail> {
     );
     Ok(())
 }
+
+/// The id of the set to which the links lead along the two records, or what is wrong with them.
+fn chain_end_id(alloc: Global, links: &[Link]) -> Result<Result<Id, ClaimFault>, Fail>
+    requires few { length links.now ≤ 64 }
+    requires texts { AllByRecursion (λ (link : Link). length link.set_text < 2 ^ 32) links.now }
+{
+    let genesis = set_of(alloc, 0)?;
+    match chain_end(&genesis, &two_records(), links) {
+        Ok(set) => Ok(Ok(set_id(&set))),
+        Err(fault) => Ok(Err(fault)),
+    }
+}
+
+#[test]
+fn a_chain_ends_at_the_set_of_its_last_link(rt: HostRuntime) -> Result<(), Fail> {
+    let alloc = rt.alloc();
+    assert!(rt; chain_end_id(alloc, &[])? == Ok(set_id(&set_of(alloc, 0)?)));
+    let both = [link_to(&rt, alloc, 1, 1)?, link_to(&rt, alloc, 2, 2)?];
+    assert!(rt; chain_end_id(alloc, &both)? == Ok(set_id(&set_of(alloc, 2)?)));
+    Ok(())
+}
+
+#[test]
+fn a_chain_may_be_broken(rt: HostRuntime) -> Result<(), Fail> {
+    let alloc = rt.alloc();
+    let skipping = [link_to(&rt, alloc, 2, 1)?];
+    let fault = LinkFault::WrongEpoch {
+        expected: 1,
+        got: 2,
+    };
+    let broken = ClaimFault::BadChain { link: 0, fault };
+    assert!(rt; chain_end_id(alloc, &skipping)? == Err(broken));
+    Ok(())
+}
