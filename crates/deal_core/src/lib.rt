@@ -17,7 +17,7 @@ mod deal_line;
 mod draft;
 pub mod laws;
 pub mod party;
-mod reach;
+pub mod reach;
 pub mod reading;
 mod saying;
 pub mod step;

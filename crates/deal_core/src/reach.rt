@@ -13,7 +13,7 @@ use dh_base::MOST_PARTIES;
 
 /// Which walks are followed: those from party 0, or those to it.
 #[derive(Clone, Copy)]
-pub(crate) enum Way {
+pub enum Way {
     From,
     To,
 }
