@@ -6,7 +6,7 @@ use Rattle.deal_core.specs.declared.deal_fault.DealFault.{DealFault}
 use Rattle.deal_core.specs.declared.deal_fault.DealFault.TheVariants.{NoMemory as OutOfMemory}
 use Rattle.deal_core.proofs.OneAnswer.{one_answer as one_reading}
 use Rattle.clear_core.specs.Summaries.{clearing_of}
-use Rattle.plain_script.specs.Reading.{Refused as RefusedAt}
+use Rattle.script_lines.specs.Refusals.{Refused as RefusedAt}
 use Rattle.deal_desk.specs.Answers.{refused_line, refused_deal_line, IsCleared, IsRehearsed, IsAnswer, IsTheAnswer}
 use Rattle.deal_desk.specs.declared.answer.Answer.{Answer}
 use Rattle.deal_desk.specs.declared.command.Command.{Command}

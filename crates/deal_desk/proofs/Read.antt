@@ -3,9 +3,11 @@ use Rattle.std.proofs.Common.{◌≡◌, ◌≢◌, ℕ, ◌≤◌, ◌<◌, Boo
 use Rattle.std.proofs.lemmas.Bool.{ltb-false, ltb-true, lt-ltb}
 use Rattle.std.proofs.lemmas.List.{length-take, length-take-le, take_all}
 use Rattle.std.proofs.Math.ListN.{drop_of_length-le}
-use Rattle.plain_script.specs.Reading.{Refused, ScriptTold, most_bytes, reading_of}
-use Rattle.plain_script.specs.declared.rule.ScriptRule.TheVariants.{TooLarge}
-use Rattle.plain_core.specs.Reports.{answered_report, report_behind, rehearsal_of}
+use Rattle.script_lines.specs.LineRules.{most_bytes}
+use Rattle.script_lines.specs.Refusals.{Refused}
+use Rattle.plain_script.specs.Reading.{ScriptTold, reading_of}
+use Rattle.script_lines.specs.declared.rule.ScriptRule.TheVariants.{TooLarge}
+use Rattle.plain_core.specs.Reports.{report_behind, rehearsal_of}
 use Rattle.deal_desk.specs.Answers.{IsCleared, IsRehearsed, IsAnswer}
 use Rattle.dh_base.specs.Outside.{Seen}
 use Rattle.deal_desk.specs.Commands.{command_of}
@@ -29,7 +31,7 @@ same_rehearsal all = by (nat_lt most_bytes (length all)) refl
   where
     by : (b : Bool) → nat_lt most_bytes (length all) ≡ b → rehearsal_of (take most_read all) ≡ rehearsal_of all
     by true e =
-        ap (λ (r : Result ScriptTold Refused). answered_report (report_behind r))
+        ap (λ (r : Result ScriptTold Refused). report_behind r)
         (too_large (take most_read all) (lt-ltb most_bytes (length (take most_read all)) (omega (arith, length-take-le most_read all (ltb-true most_bytes (length all) e)))) ∙ sym (too_large all e))
     by false e = ap rehearsal_of (take_all most_read all (omega (arith, ltb-false most_bytes (length all) e)))
 
@@ -40,7 +42,7 @@ reported_short : (bytes text : List ℕ) → rehearsal_of bytes ≡ Ok text → 
 reported_short bytes text told = by (nat_lt most_bytes (length bytes)) refl
   where
     by : (b : Bool) → nat_lt most_bytes (length bytes) ≡ b → length bytes ≤ most_bytes
-    by true e = absurd (no_text text (record { line = 0; rule = TooLarge }) (sym (ap (λ (r : Result ScriptTold Refused). answered_report (report_behind r)) (too_large bytes e)) ∙ told))
+    by true e = absurd (no_text text (record { line = 0; rule = TooLarge }) (sym (ap (λ (r : Result ScriptTold Refused). report_behind r) (too_large bytes e)) ∙ told))
     by false e = ltb-false most_bytes (length bytes) e
 
 -- ---- answers

@@ -7,10 +7,10 @@ use Rattle.deal_core.specs.Reading.{IsTextOf, IsFaultOf}
 use Rattle.deal_core.specs.declared.deal_fault.DealFault.{DealFault}
 use Rattle.deal_core.specs.declared.deal_fault.DealFault.TheVariants.{NoMemory as OutOfMemory}
 use Rattle.clear_core.specs.Summaries.{clearing_of}
-use Rattle.plain_script.specs.RuleNames.{refused_text}
-use Rattle.plain_script.specs.declared.rule.ScriptRule.{ScriptRule}
-use Rattle.plain_script.specs.declared.rule.ScriptRule.TheVariants.{TooLarge}
-use Rattle.plain_script.specs.Reading.{most_bytes}
+use Rattle.script_lines.specs.RuleNames.{refused_text}
+use Rattle.script_lines.specs.declared.rule.ScriptRule.{ScriptRule}
+use Rattle.script_lines.specs.declared.rule.ScriptRule.TheVariants.{TooLarge}
+use Rattle.script_lines.specs.LineRules.{most_bytes}
 use Rattle.plain_core.specs.Reports.{rehearsal_of}
 use Rattle.deal_desk.specs.declared.command.Command.{Command}
 use Rattle.deal_desk.specs.declared.command.Command.TheVariants.{Clear, Rehearse}

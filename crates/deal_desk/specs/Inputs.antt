@@ -1,6 +1,6 @@
 -- What was read of a source.
 use Rattle.std.specs.Prelude.{ℕ, ◌≡◌, ◌+◌, ◌≤◌, List, take, drop, Option, Some, IfSome}
-use Rattle.plain_script.specs.Reading.{most_bytes}
+use Rattle.script_lines.specs.LineRules.{most_bytes}
 
 -- how many bytes are read at most: one more than an input may have
 abbrev pub most_read : ℕ

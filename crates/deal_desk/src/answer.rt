@@ -7,7 +7,7 @@ ghost use Rattle.deal_desk.specs.declared.ending.Ending.TheVariants.{Done, Refus
 use crate::ending::Ending;
 use deal_core::DealFault;
 use dh_base::{List, NoMemory};
-use plain_script::{RefusedLine, ScriptRule};
+use script_lines::{RefusedLine, ScriptRule};
 use std::alloc::Global;
 use std::fmt::Write;
 

@@ -2,7 +2,7 @@
 
 ghost use Rattle.std.specs.Prelude.{◌≤◌, length, IfOk};
 ghost use Rattle.deal_desk.specs.Answers.{IsCleared, IsRehearsed, IsTheAnswer};
-ghost use Rattle.plain_script.specs.Reading.{most_bytes};
+ghost use Rattle.script_lines.specs.LineRules.{most_bytes};
 
 use crate::answer::Answer;
 use crate::command::Command;
@@ -10,8 +10,7 @@ use clear_core::clearing_text;
 use deal_core::{DealFault, read_deal};
 use dh_base::NoMemory;
 use plain_core::{PlainHalt, rehearse_plain};
-use plain_script::ScriptRule;
-use plain_script::script::MOST_BYTES;
+use script_lines::{MOST_BYTES, ScriptRule};
 use std::alloc::Global;
 
 /// The clearing of the deal whose text it is, or its fault.

@@ -4,7 +4,7 @@ ghost use Rattle.std.specs.Prelude.{◌≡◌};
 ghost use Rattle.deal_desk.specs.Endings.{status_of};
 
 use deal_core::DealFault;
-use plain_script::ScriptRule;
+use script_lines::ScriptRule;
 
 /// How a run ends.
 #[derive(Clone, Copy, Debug, PartialEq, Eq)]

@@ -6,7 +6,7 @@ ghost use Rattle.dh_base.specs.Faults.{HasRisen};
 ghost use Rattle.deal_desk.specs.Inputs.{WasRead, GaveFront};
 
 use dh_base::Source;
-use plain_script::script::MOST_BYTES;
+use script_lines::MOST_BYTES;
 use std::alloc::Global;
 
 /// One byte more than an input may have.

@@ -12,7 +12,7 @@ use Rattle.plain_script.specs.OpeningRows.{rows_by, rows_of, is_good_row}
 use Rattle.plain_script.specs.Rules.{declaration_rule, DeclareByRules}
 use Rattle.plain_script.specs.declared.declaration.Declaration.{Declaration}
 use Rattle.plain_script.specs.declared.declaration.Declaration.TheVariants.{Ledger, Open, Deal}
-use Rattle.plain_script.specs.declared.rule.ScriptRule.TheVariants.{NameTwice, UnknownName, BadOpening}
+use Rattle.script_lines.specs.declared.rule.ScriptRule.TheVariants.{NameTwice, UnknownName, BadOpening}
 use Rattle.line_text.proofs.Faults.{unbroken}
 
 -- the row that a line opens on the ledger

@@ -10,7 +10,7 @@ use Rattle.plain_script.specs.BoundNames.{are_different, members_of, is_bound}
 use Rattle.plain_script.specs.Rules.{names_thing, declaration_rule, DeclareByRules}
 use Rattle.plain_script.specs.declared.declaration.Declaration.{Declaration}
 use Rattle.plain_script.specs.declared.declaration.Declaration.TheVariants.{Ledger, Open, Deal}
-use Rattle.plain_script.specs.declared.rule.ScriptRule.TheVariants.{BadLine, NameTwice, TooMany}
+use Rattle.script_lines.specs.declared.rule.ScriptRule.TheVariants.{BadLine, NameTwice, TooMany}
 use Rattle.plain_script.specs.Ids.{plain_id}
 use Rattle.plain_core.proofs.EachOnce.{each_once, once_if_different}
 use Rattle.plain_script.proofs.PlainIds.{same_plain_id}

@@ -14,11 +14,11 @@ use Rattle.vote_log.specs.declared.decision.Decision.{Decision}
 use Rattle.vote_log.specs.Entry.{Entry}
 use Rattle.vote_log.specs.Log.{Log}
 use Rattle.vote_log.specs.Deciding.{outcome_of}
-use Rattle.plain_script.specs.Reading.{Refused}
+use Rattle.script_lines.specs.Refusals.{Refused}
 use Rattle.plain_script.specs.Rules.{DeclareByRules}
 use Rattle.plain_script.specs.declared.declaration.Declaration.{Declaration}
 use Rattle.plain_script.specs.declared.numbered.Numbered.{Numbered}
-use Rattle.plain_script.specs.declared.rule.ScriptRule.TheVariants.{OutOfRange}
+use Rattle.script_lines.specs.declared.rule.ScriptRule.TheVariants.{OutOfRange}
 use Rattle.plain_script.specs.Ids.{plain_id}
 use Rattle.plain_core.specs.Starts.{started_world}
 use Rattle.plain_core.specs.Ledgers.{LedgerTold, World, step_of}

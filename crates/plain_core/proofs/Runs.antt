@@ -1,13 +1,13 @@
 -- How a report grows by an event.
 use Rattle.std.proofs.Common.{◌≡◌, ◌≢◌, ℕ, suc, ◌+◌, ◌<◌, length, get_or, drop, drop-cons, arith, Bool, true, false, cond, Result, Ok, Err, List, [], ◌∷◌, ◌++◌, refl, sym, ap, subst, ◌∙◌, append_assoc}
 use Rattle.std.proofs.lemmas.List.{append-nil}
-use Rattle.plain_script.specs.Reading.{Refused}
-use Rattle.plain_script.specs.Answers.{Halts}
-use Rattle.plain_script.specs.declared.halt.PlainHalt.{PlainHalt}
-use Rattle.plain_script.specs.declared.halt.PlainHalt.TheVariants.{NoMemory, Refused as RefusedAt}
+use Rattle.script_lines.specs.Refusals.{Refused}
+use Rattle.script_lines.specs.Refusals.{Halts}
+use Rattle.script_lines.specs.declared.halt.ScriptHalt.{ScriptHalt}
+use Rattle.script_lines.specs.declared.halt.ScriptHalt.TheVariants.{NoMemory, Refused as RefusedAt}
 use Rattle.plain_script.specs.declared.declaration.Declaration.{Declaration}
 use Rattle.plain_script.specs.declared.numbered.Numbered.{Numbered}
-use Rattle.plain_script.specs.declared.rule.ScriptRule.TheVariants.{OutOfRange}
+use Rattle.script_lines.specs.declared.rule.ScriptRule.TheVariants.{OutOfRange}
 use Rattle.plain_core.specs.Given.{AreWithin}
 use Rattle.plain_core.specs.Openings.{ledger_names}
 use Rattle.plain_core.specs.Starts.{started_world}
@@ -41,15 +41,15 @@ run_on ds before after old new happened events rest whole is so_far step =
     sym (taken before after new (happened_of ds old happened) (λ next. run_from ds next rest) step)
     ∙ (ap (λ (es : List Numbered). told_behind before (run_from ds old es)) (sym is) ∙ so_far)
 
-halts_behind : (halt : PlainHalt) (before : List ℕ) (run : Result Report Refused) → Halts halt run → Halts halt (told_behind before run)
+halts_behind : (halt : ScriptHalt) (before : List ℕ) (run : Result Report Refused) → Halts halt run → Halts halt (told_behind before run)
 halts_behind NoMemory before run h = tt
 halts_behind (RefusedAt line rule) before run h = ap (told_behind before) h
 
-halts_on : (halt : PlainHalt) (step : Result Report Refused) (more : World → Result Report Refused) → Halts halt step → Halts halt (goes_on step more)
+halts_on : (halt : ScriptHalt) (step : Result Report Refused) (more : World → Result Report Refused) → Halts halt step → Halts halt (goes_on step more)
 halts_on NoMemory step more h = tt
 halts_on (RefusedAt line rule) step more h = ap (λ (s : Result Report Refused). goes_on s more) h
 
-pub run_halts : (ds : List Declaration) (before : List ℕ) (old : World) (happened : Numbered) (events rest : List Numbered) (whole : Result Report Refused) (halt : PlainHalt) → events ≡ happened ∷ rest → told_behind before (run_from ds old events) ≡ whole → Halts halt (happened_of ds old happened) → Halts halt whole
+pub run_halts : (ds : List Declaration) (before : List ℕ) (old : World) (happened : Numbered) (events rest : List Numbered) (whole : Result Report Refused) (halt : ScriptHalt) → events ≡ happened ∷ rest → told_behind before (run_from ds old events) ≡ whole → Halts halt (happened_of ds old happened) → Halts halt whole
 run_halts ds before old happened events rest whole halt is so_far step =
     subst (Halts halt) so_far
     (halts_behind halt before (run_from ds old events)

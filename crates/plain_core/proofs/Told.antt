@@ -11,22 +11,18 @@ use Rattle.escrow_book.proofs.Whole.{grown}
 use Rattle.escrow_book.proofs.Totals.{is_conserved}
 use Rattle.vote_log.proofs.Decided.{stays}
 use Rattle.plain_script.proofs.Declared.{declared_good, few_happen}
-use Rattle.plain_script.specs.Reading.{Refused, ScriptTold, reading_of}
+use Rattle.script_lines.specs.Refusals.{Refused}
+use Rattle.plain_script.specs.Reading.{ScriptTold, reading_of}
 use Rattle.plain_script.specs.declared.declaration.Declaration.{Declaration}
 use Rattle.plain_core.specs.Starts.{started_world}
 use Rattle.plain_core.specs.Ledgers.{World}
-use Rattle.plain_core.specs.Reports.{Report, run_from, whole_report, report_of, answered_report, report_behind, rehearsal_of}
+use Rattle.plain_core.specs.Reports.{Report, run_from, whole_report, report_of, report_behind, rehearsal_of}
 use Rattle.plain_core.specs.Tables.{tables_text}
 use Rattle.plain_core.specs.OneLog.{moments_from, moment_line, TellsOneLog}
 use Rattle.plain_core.proofs.Promised.{RunLaws, ran, follows_one_log}
 
 text_is : (a b : List ℕ) → ◌≡◌ {A = Result (List ℕ) Refused} (Ok a) (Ok b) → a ≡ b
 text_is a b e = cc
-
--- a report is answered as it is
-not_answered : (result : Result (List ℕ) Refused) (report : List ℕ) → answered_report result ≡ Ok report → result ≡ Ok report
-not_answered (Err refused) report e = absurd cc
-not_answered (Ok text) report e = e
 
 was_read : (read : Result ScriptTold Refused) (report : List ℕ) → report_behind read ≡ Ok report → (told : ScriptTold) × (read ≡ Ok told) × (report_of told ≡ Ok report)
 was_read (Err refused) report e = absurd cc
@@ -54,7 +50,7 @@ run_laws = record {
 
 pub one_log : (script report : List ℕ) → rehearsal_of script ≡ Ok report → TellsOneLog script report
 one_log script report e =
-    let found = was_read (reading_of script) report (not_answered (report_behind (reading_of script)) report e) in
+    let found = was_read (reading_of script) report e in
     let told : ScriptTold = found.0 in
     let ds : List Declaration = told.declarations in
     let ends = has_ended ds (run_from ds (started_world ds) told.events) report found.2 in

@@ -1,13 +1,13 @@
 -- What a plain script reports: a line for each event, and then the final tables.
 use Rattle.std.specs.Prelude.{ℕ, Bool, true, false, nat_lt, if◌then◌else◌, List, [], ◌∷◌, ◌++◌, length, Option, Some, None, is_none, Result, Ok, Err}
 use Rattle.std.specs.Fmt.{decimal}
-use Rattle.plain_script.specs.Reading.{Refused, ScriptTold, reading_of}
-use Rattle.plain_script.specs.RuleNames.{answered}
+use Rattle.script_lines.specs.Refusals.{Refused}
+use Rattle.plain_script.specs.Reading.{ScriptTold, reading_of}
 use Rattle.plain_script.specs.declared.declaration.Declaration.{Declaration}
 use Rattle.plain_script.specs.declared.event.Event.{Event}
 use Rattle.plain_script.specs.declared.event.Event.TheVariants.{Register, Escrow, Transfer, Start, Commit, Abort, Claim}
 use Rattle.plain_script.specs.declared.numbered.Numbered.{Numbered}
-use Rattle.plain_script.specs.declared.rule.ScriptRule.TheVariants.{OutOfRange}
+use Rattle.script_lines.specs.declared.rule.ScriptRule.TheVariants.{OutOfRange}
 use Rattle.plain_core.specs.Replies.{reply_text}
 use Rattle.plain_core.specs.Starts.{started_world}
 use Rattle.plain_core.specs.Tables.{tables_text}
@@ -72,18 +72,10 @@ report_of script =
     whole_report script.declarations
     (run_from script.declarations (started_world script.declarations) script.events)
 
--- A refused line is answered by its number and the rule that this build answers.
-abbrev pub answered_line : Refused → Refused
-answered_line refused = record { line = refused.line; rule = answered refused.rule }
-
-abbrev pub answered_report : Result (List ℕ) Refused → Result (List ℕ) Refused
-answered_report (Err refused) = Err (answered_line refused)
-answered_report (Ok text) = Ok text
-
 abbrev pub report_behind : Result ScriptTold Refused → Result (List ℕ) Refused
 report_behind (Err refused) = Err refused
 report_behind (Ok script) = report_of script
 
 -- what a rehearsal of the script answers
 abbrev pub rehearsal_of : List ℕ → Result (List ℕ) Refused
-rehearsal_of script = answered_report (report_behind (reading_of script))
+rehearsal_of script = report_behind (reading_of script)

@@ -18,6 +18,6 @@ mod world;
 pub use act_refusal::ActRefusal;
 pub use claim_refusal::ClaimRefusal;
 pub use log_refusal::LogRefusal;
-pub use plain_script::{PlainHalt, ScriptRule};
 pub use rehearsal::rehearse_plain;
 pub use reply::Reply;
+pub use script_lines::{ScriptHalt as PlainHalt, ScriptRule};

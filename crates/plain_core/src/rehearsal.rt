@@ -5,15 +5,15 @@ ghost use Rattle.escrow_book.specs.Base.{greatest_turn};
 ghost use Rattle.plain_script.specs.Answers.{script_told};
 ghost use Rattle.plain_core.specs.Given.{AreWithin};
 ghost use Rattle.plain_core.specs.Starts.{started_world};
-ghost use Rattle.plain_core.specs.Reports.{reply_line, happened_of, run_from, report_of, report_behind, rehearsal_of};
-ghost use Rattle.plain_core.specs.Rehearsed.{answered_halt, Happens, GivesRun, GivesReport};
-ghost use Rattle.plain_script.specs.Reading.{reading_of};
+ghost use Rattle.plain_core.specs.Reports.{reply_line, happened_of, run_from, report_of, rehearsal_of};
+ghost use Rattle.plain_core.specs.Rehearsed.{Happens, GivesRun, GivesReport};
 
 use crate::reply::Reply;
 use crate::tables::write_tables;
 use crate::world::World;
 use dh_base::{List, NoMemory};
-use plain_script::{Declarations, Numbered, PlainHalt, Script, ScriptRule, read_script};
+use plain_script::{Declarations, Numbered, Script, read_script};
+use script_lines::{ScriptHalt, ScriptRule};
 use std::alloc::Global;
 use std::fmt::Write;
 
@@ -33,26 +33,26 @@ fn happen(
     happened: &Numbered,
     world: &mut World,
     out: &mut String,
-) -> Result<(), PlainHalt>
+) -> Result<(), ScriptHalt>
     requires { AreWithin (greatest_turn - 1) world.old.ledgers }
     ensures { Happens result (string_bytes out.old) (string_bytes out.new) world.new
         (happened_of declarations.now world.old happened.now) }
 {
     let line = happened.line;
     if world.is_out_of_range(&happened.event) {
-        return Err(PlainHalt::Refused {
+        return Err(ScriptHalt::Refused {
             line,
             rule: ScriptRule::OutOfRange,
         });
     }
     match world.step(alloc, declarations, &happened.event) {
         Ok(reply) => Ok(write_reply(line, &reply, out)?),
-        Err(error) => Err(PlainHalt::from(error)),
+        Err(error) => Err(ScriptHalt::from(error)),
     }
 }
 
 /// Lets the events of the script happen, and writes a line for each.
-fn run(alloc: Global, script: &Script, out: &mut String) -> Result<World, PlainHalt>
+fn run(alloc: Global, script: &Script, out: &mut String) -> Result<World, ScriptHalt>
     requires few { length script.now.events < greatest_turn }
     requires empty { string_bytes out.old ≡ [] }
     ensures { GivesRun result (string_bytes out.new)
@@ -67,7 +67,7 @@ fn run(alloc: Global, script: &Script, out: &mut String) -> Result<World, PlainH
 }
 
 /// The report of a script that was read.
-fn report(alloc: Global, script: &Script) -> Result<List<u8>, PlainHalt>
+fn report(alloc: Global, script: &Script) -> Result<List<u8>, ScriptHalt>
     requires { length script.now.events < greatest_turn }
     ensures { GivesReport result (report_of (script_told script.now)) }
 {
@@ -77,35 +77,12 @@ fn report(alloc: Global, script: &Script) -> Result<List<u8>, PlainHalt>
     Ok(List::from_vec(text.into_bytes()))
 }
 
-/// The report of a script, or the first line that breaks a rule.
-fn rehearsed(alloc: Global, script: &[u8]) -> Result<List<u8>, PlainHalt>
-    ensures { GivesReport result (report_behind (reading_of script.now)) }
-{
-    let script = read_script(alloc, script)?;
-    report(alloc, &script)
-}
-
-/// The halt with the rule that this build answers.
-fn answered(halt: PlainHalt) -> PlainHalt
-    ensures { result ≡ answered_halt halt }
-{
-    match halt {
-        PlainHalt::Refused { line, rule } => PlainHalt::Refused {
-            line,
-            rule: rule.answered(),
-        },
-        PlainHalt::NoMemory => PlainHalt::NoMemory,
-    }
-}
-
 /// Rehearses a plain script: the whole report, or the line that is refused. This is the first line
 /// that breaks a rule of the reading, and only where there is none the first event whose numbers
 /// are out of range.
-pub fn rehearse_plain(alloc: Global, script: &[u8]) -> Result<List<u8>, PlainHalt>
+pub fn rehearse_plain(alloc: Global, script: &[u8]) -> Result<List<u8>, ScriptHalt>
     ensures { GivesReport result (rehearsal_of script.now) }
 {
-    match rehearsed(alloc, script) {
-        Ok(report) => Ok(report),
-        Err(halt) => Err(answered(halt)),
-    }
+    let script = read_script(alloc, script)?;
+    report(alloc, &script)
 }

@@ -1,22 +1,25 @@
 -- The front of a script with one line more, and what reading gives when no line is left.
-use Rattle.std.proofs.Common.{◌≡◌, ℕ, suc, ◌+◌, ◌≤◌, Bool, true, false, cond, ◌||◌, ◌==◌, Option, Some, None, List, [], ◌∷◌, ◌++◌, length, Err, refl, sym, ap, subst, ◌∙◌, arith, append_assoc}
+use Rattle.std.proofs.Common.{◌≡◌, ℕ, suc, ◌+◌, ◌≤◌, Bool, true, false, cond, ◌||◌, Option, Some, None, List, [], ◌∷◌, ◌++◌, length, Err, refl, sym, ap, subst, ◌∙◌, arith, append_assoc}
 use Rattle.std.specs.List.{list_any, flat_map}
 use Rattle.std.proofs.lemmas.List.{append-nil, length_push, length-append}
 use Rattle.std.proofs.lemmas.List.Concat.{flat_map-append}
 use Rattle.std.proofs.lemmas.List.Folds.{list_any-append}
 use Rattle.std.specs.Option.{option_to_list}
-use Rattle.line_text.specs.Lines.{Line, lines_of, onto_first_line}
+use Rattle.line_text.specs.Lines.{Line, lines_of}
 use Rattle.plain_script.specs.Rules.{place_after, declarations_of, declared_by, is_begin}
-use Rattle.plain_script.specs.Reading.{Refused, passes_over, said_by, statements_by, statements_of, events_from, events_at, line_rule, at_line, first_refused, reading_whole, reading_lines}
+use Rattle.script_lines.specs.LineRules.{passes_over}
+use Rattle.script_lines.specs.Refusals.{first_refused, unless_refused}
+use Rattle.script_lines.proofs.ReadTo.{IsReadTo, lines_few, before_few, starts as starts_to, goes_on as goes_on_to, refuses as refuses_to, ends as ends_to}
+use Rattle.plain_script.specs.Reading.{said_by, statements_by, statements_of, events_from, events_at, line_rule, reading_whole}
 use Rattle.plain_script.specs.Fronts.{Front, front_of, rule_behind, next_place, stated, stated_all, past_line, front_after}
 use Rattle.plain_script.specs.Answers.{whole_of}
 use Rattle.plain_script.specs.declared.numbered.Numbered.{Numbered}
 use Rattle.plain_script.specs.declared.declaration.Declaration.{Declaration}
 use Rattle.plain_script.specs.declared.statement.Statement.{Statement}
 use Rattle.plain_script.specs.declared.statement.Statement.TheVariants.{Plain, House, Declare, Begin, Happen}
-use Rattle.plain_script.specs.declared.rule.ScriptRule.{ScriptRule}
-use Rattle.plain_script.specs.declared.place.Place.{Place}
-use Rattle.plain_script.specs.declared.place.Place.TheVariants.{Declarations, Events}
+use Rattle.script_lines.specs.declared.rule.ScriptRule.{ScriptRule}
+use Rattle.script_lines.specs.declared.place.Place.{Place}
+use Rattle.script_lines.specs.declared.place.Place.TheVariants.{Declarations, Events}
 
 -- ---- one line more
 
@@ -114,56 +117,27 @@ abbrev pub line_rule_at : Front → Line → Option ScriptRule
 line_rule_at front line = rule_behind front line
 
 -- the lines before those left, and what they come to
-pub record IsReadTo (all left : List Line) (front : Front) : Type 0 where
-  pub before : List Line
-  pub front_is : front ≡ front_of before
-  pub whole : before ++ left ≡ all
-  pub so_far : first_refused before left ≡ first_refused [] all
+abbrev pub IsRead : List Line → List Line → Front → Type 0
+IsRead all left front = IsReadTo line_rule front_of all left front
 
-pub starts : (all left : List Line) (front : Front) → left ≡ all → front ≡ front_of [] → IsReadTo all left front
-starts all left front e f = record { before = []; front_is = f; whole = e; so_far = ap (first_refused []) e }
+pub starts : (all left : List Line) (front : Front) → left ≡ all → front ≡ front_of [] → IsRead all left front
+starts all left front e f = starts_to line_rule front_of all left front e f
 
-pub few_events : (all left : List Line) (front : Front) → IsReadTo all left front → length front.events ≤ front.number
+pub few_events : (all left : List Line) (front : Front) → IsRead all left front → length front.events ≤ front.number
 few_events all left front r = subst (λ (f : Front). length f.events ≤ f.number) (sym r.front_is) (events_few 0 r.before)
 
-at_none : (n : ℕ) (rule : Option ScriptRule) (later : Option Refused) → rule ≡ None → at_line n rule later ≡ later
-at_none n rule later e = rw e refl
+pub goes_on : (all left : List Line) (front : Front) (line : Line) (rest : List Line) (after : Front) → IsRead all left front → left ≡ line ∷ rest → line_rule_at front line ≡ None → after ≡ front_after front line → IsRead all rest after
+goes_on all left front line rest after r is none next = goes_on_to line_rule front_of rule_behind front_after (λ before line. refl) front_push all left front line rest after r is none next
 
-at_some : (n : ℕ) (rule : Option ScriptRule) (r : ScriptRule) (later : Option Refused) → rule ≡ Some r → at_line n rule later ≡ Some (record { line = n; rule = r })
-at_some n rule r later e = rw e refl
+pub refuses : (all left : List Line) (front : Front) (line : Line) (rest : List Line) (rule : ScriptRule) → IsRead all left front → left ≡ line ∷ rest → line_rule_at front line ≡ Some rule → unless_refused (first_refused line_rule [] all) (reading_whole all) ≡ Err (record { line = front.number + 1; rule = rule })
+refuses all left front line rest rule r is some = refuses_to line_rule front_of rule_behind (λ before line. refl) all left front line rest rule front.number (reading_whole all) r is some (sym (ap (λ (f : Front). f.number) r.front_is))
 
-pub goes_on : (all left : List Line) (front : Front) (line : Line) (rest : List Line) (after : Front) → IsReadTo all left front → left ≡ line ∷ rest → line_rule_at front line ≡ None → after ≡ front_after front line → IsReadTo all rest after
-goes_on all left front line rest after r is none next =
-    let rule : line_rule r.before line ≡ None = ap (λ (f : Front). line_rule_at f line) (sym r.front_is) ∙ none in
-    record {
-      before = r.before ++ line ∷ [];
-      front_is = next ∙ (ap (λ (f : Front). front_after f line) r.front_is ∙ sym (front_push r.before line));
-      whole = append_assoc r.before (line ∷ []) rest ∙ (ap (λ (ls : List Line). r.before ++ ls) (sym is) ∙ r.whole);
-      so_far = sym (at_none (length r.before + 1) (line_rule r.before line) (first_refused (r.before ++ line ∷ []) rest) rule) ∙ (ap (first_refused r.before) (sym is) ∙ r.so_far);
-    }
-
-pub refuses : (all left : List Line) (front : Front) (line : Line) (rest : List Line) (rule : ScriptRule) → IsReadTo all left front → left ≡ line ∷ rest → line_rule_at front line ≡ Some rule → reading_lines all (first_refused [] all) ≡ Err (record { line = front.number + 1; rule = rule })
-refuses all left front line rest rule r is some =
-    let here : line_rule r.before line ≡ Some rule = ap (λ (f : Front). line_rule_at f line) (sym r.front_is) ∙ some in
-    let found : first_refused [] all ≡ Some (record { line = length r.before + 1; rule = rule }) = sym r.so_far ∙ (ap (first_refused r.before) is ∙ at_some (length r.before + 1) (line_rule r.before line) rule (first_refused (r.before ++ line ∷ []) rest) here) in
-    ap (reading_lines all) found ∙ ap (λ k. Err (record { line = k + 1; rule = rule })) (sym (ap (λ (f : Front). f.number) r.front_is))
-
-pub ends : (all left : List Line) (front : Front) → IsReadTo all left front → left ≡ [] → reading_lines all (first_refused [] all) ≡ whole_of front
+pub ends : (all left : List Line) (front : Front) → IsRead all left front → left ≡ [] → unless_refused (first_refused line_rule [] all) (reading_whole all) ≡ whole_of front
 ends all left front r none =
-    let found : first_refused [] all ≡ None = sym r.so_far ∙ ap (first_refused r.before) none in
-    let lines : r.before ≡ all = sym (append-nil r.before) ∙ (ap (λ (ls : List Line). r.before ++ ls) (sym none) ∙ r.whole) in
-    ap (reading_lines all) found ∙ (ap reading_whole (sym lines) ∙ (whole_is r.before ∙ ap whole_of (sym r.front_is)))
-
-pub lines_few : (text : List ℕ) → length (lines_of text) ≤ length text
-lines_few [] = omega arith
-lines_few (c ∷ cs) = at (c == 10) (lines_of cs) (lines_few cs)
-  where
-    at : (b : Bool) (ls : List Line) → length ls ≤ length cs → length (cond b (record { text = []; ended = true } ∷ ls) (onto_first_line c ls)) ≤ suc (length cs)
-    at true ls h = omega arith
-    at false [] h = omega arith
-    at false (l ∷ ls) h = omega arith
+    let found = ends_to line_rule front_of all left front (reading_whole all) r none in
+    found.1 ∙ (ap reading_whole (sym found.0) ∙ (whole_is r.before ∙ ap whole_of (sym r.front_is)))
 
 -- the number of a front is small where the script is
-pub number_small : (text : List ℕ) (left : List Line) (front : Front) → IsReadTo (lines_of text) left front → front.number + length left ≤ length text
+pub number_small : (text : List ℕ) (left : List Line) (front : Front) → IsRead (lines_of text) left front → front.number + length left ≤ length text
 number_small text left front r =
-    omega (arith, lines_few text, ap (λ (f : Front). f.number) r.front_is, ap length r.whole, length-append r.before left)
+    omega (arith, before_few line_rule front_of text left front r, ap (λ (f : Front). f.number) r.front_is)

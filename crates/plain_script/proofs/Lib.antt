@@ -1,9 +1,7 @@
 pub mod Declared
-pub mod FirstLine
 pub mod FirstWords
 pub mod Fronting
 pub mod NamesSame
-pub mod NameWords
 pub mod Opened
 pub mod OpeningRows
 pub mod Orders

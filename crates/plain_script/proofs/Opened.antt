@@ -14,7 +14,7 @@ use Rattle.line_text.proofs.Faults.{unbroken}
 use Rattle.plain_script.specs.Rules.{rule_with_parties, declaration_rule, DeclareByRules}
 use Rattle.plain_script.specs.declared.declaration.Declaration.{Declaration}
 use Rattle.plain_script.specs.declared.declaration.Declaration.TheVariants.{Ledger, Open, Deal}
-use Rattle.plain_script.specs.declared.rule.ScriptRule.TheVariants.{NameTwice, UnknownName, BadOpening}
+use Rattle.script_lines.specs.declared.rule.ScriptRule.TheVariants.{NameTwice, UnknownName, BadOpening}
 
 abbrev AllSmall : List Declaration → Type 0
 AllSmall ds = (ledger asset : List ℕ) → opened_of ds ledger asset < 2 ^ 63

@@ -7,17 +7,20 @@ use Rattle.std.proofs.lemmas.List.Concat.{flat_map-append}
 use Rattle.std.specs.Option.{option_to_list}
 use Rattle.line_text.specs.Lines.{Line, is_passed_over}
 use Rattle.plain_script.specs.Said.{statement_of}
-use Rattle.plain_script.specs.Rules.{declarations_of, declared_by, is_begin, lesser_rule, statement_rule, said_rule}
-use Rattle.plain_script.specs.Reading.{Refused, passes_over, said_by, statements_by, statements_of, events_from, events_at, line_rule, at_line, first_refused}
+use Rattle.plain_script.specs.Rules.{declarations_of, declared_by, is_begin, statement_rule, said_rule}
+use Rattle.script_lines.specs.LineRules.{passes_over}
+use Rattle.script_lines.specs.Refusals.{Refused, at_line, first_refused}
+use Rattle.script_lines.proofs.Lesser.{lesser_none}
+use Rattle.plain_script.specs.Reading.{said_by, statements_by, statements_of, events_from, events_at, line_rule}
 use Rattle.plain_script.specs.Fronts.{Front, front_of, rule_behind, next_place, front_after}
 use Rattle.plain_script.specs.Spelling.{happening}
 use Rattle.plain_script.specs.declared.declaration.Declaration.{Declaration}
 use Rattle.plain_script.specs.declared.event.Event.{Event}
 use Rattle.plain_script.specs.declared.statement.Statement.{Statement}
 use Rattle.plain_script.specs.declared.statement.Statement.TheVariants.{Plain, House, Declare, Begin, Happen}
-use Rattle.plain_script.specs.declared.rule.ScriptRule.{ScriptRule}
-use Rattle.plain_script.specs.declared.place.Place.{Place}
-use Rattle.plain_script.specs.declared.place.Place.TheVariants.{Head, Declarations, Events}
+use Rattle.script_lines.specs.declared.rule.ScriptRule.{ScriptRule}
+use Rattle.script_lines.specs.declared.place.Place.{Place}
+use Rattle.script_lines.specs.declared.place.Place.TheVariants.{Head, Declarations, Events}
 use Rattle.plain_script.proofs.Fronting.{front_push}
 
 -- no line breaks a rule behind a front
@@ -29,10 +32,10 @@ pub at_line_none : (n : ℕ) (rule : Option ScriptRule) (later : Option Refused)
 at_line_none n None later e = (refl, e)
 at_line_none n (Some rule) later e = absurd cc
 
-pub keeps_from : (before lines : List Line) → first_refused before lines ≡ None → Keeps (front_of before) lines
+pub keeps_from : (before lines : List Line) → first_refused line_rule before lines ≡ None → Keeps (front_of before) lines
 keeps_from before [] e = tt
 keeps_from before (line ∷ lines) e =
-    let h = at_line_none (length before + 1) (line_rule before line) (first_refused (before ++ line ∷ []) lines) e in
+    let h = at_line_none (length before + 1) (line_rule before line) (first_refused line_rule (before ++ line ∷ []) lines) e in
     (h.0, subst (λ (f : Front). Keeps f lines) (front_push before line) (keeps_from (before ++ line ∷ []) lines h.1))
 
 -- ---- one line
@@ -49,15 +52,6 @@ pub record IsSaid (front : Front) (line : Line) (s : Statement) : Type 0 where
   pub said : statement_of line.text ≡ Some s
   pub one : statements_by line ≡ s ∷ []
   pub kept : statement_rule front.place front.declarations s ≡ None
-
-lesser_none : (rule other : Option ScriptRule) → lesser_rule rule other ≡ None → rule ≡ None
-lesser_none None other e = refl
-lesser_none (Some rule) None e = absurd cc
-lesser_none (Some rule) (Some other) e = by_test (leb _ _) e
-  where
-    by_test : (b : Bool) → cond b (Some rule) (Some other) ≡ None → Some rule ≡ None
-    by_test true f = absurd cc
-    by_test false f = absurd cc
 
 said_none : (n : ℕ) (p : Place) (ds : List Declaration) (said : Option Statement) → said_rule n p ds said ≡ None → (s : Statement) × (said ≡ Some s) × (statement_rule p ds s ≡ None)
 said_none n p ds None e = absurd cc

@@ -15,8 +15,9 @@ use Rattle.line_text.proofs.Joining.{words_of-spelled, spelled-words_of}
 use Rattle.line_text.proofs.Plain.{lacks-name, lacks-decimal, lacks-spelled_words}
 use Rattle.line_text.proofs.PlainWords.{IsPlain, AllPlain, no_spaces, no_feeds}
 use Rattle.line_text.proofs.WordReading.{Words}
+use Rattle.script_lines.specs.WordLists.{SpellsNumber}
 use Rattle.plain_script.specs.Said.{statement_of, statement_of_words}
-use Rattle.plain_script.specs.Spelling.{declaration_words, SpellsNumber, SpellsEvent, IsGoodDeclaration, IsGoodEvent, Spells}
+use Rattle.plain_script.specs.Spelling.{declaration_words, SpellsEvent, IsGoodDeclaration, IsGoodEvent, Spells}
 use Rattle.plain_script.specs.declared.declaration.Declaration.{Declaration}
 use Rattle.plain_script.specs.declared.declaration.Declaration.TheVariants.{Ledger, Open, Deal}
 use Rattle.plain_script.specs.declared.event.Event.{Event}

@@ -7,7 +7,9 @@ use Rattle.line_text.specs.Lines.{AreLines, Line, lines_of, ended_line, joined_l
 use Rattle.line_text.specs.Words.{words_of}
 use Rattle.plain_script.specs.Said.{keyword_of, statement_of, statement_of_words}
 use Rattle.plain_script.specs.Rules.{declarations_of, is_begin}
-use Rattle.plain_script.specs.Reading.{Refused, ScriptTold, statements_by, statements_of, events_from, events_at, first_refused, says_nothing, reading_whole, reading_lines, reading_of, most_bytes}
+use Rattle.script_lines.specs.LineRules.{most_bytes}
+use Rattle.script_lines.specs.Refusals.{Refused, first_refused, unless_refused}
+use Rattle.plain_script.specs.Reading.{ScriptTold, statements_by, statements_of, events_from, events_at, line_rule, says_nothing, reading_whole, reading_of}
 use Rattle.plain_script.specs.Fronts.{Front, front_of, front_after}
 use Rattle.plain_script.specs.Spelling.{Spells, ScriptLine, Passed, Says, SpellsLine, SpellLines, SpellScript, says, IsInOrder, events_told, happening, IsScriptOf, IsReadAs}
 use Rattle.plain_script.specs.declared.declaration.Declaration.{Declaration}
@@ -15,8 +17,8 @@ use Rattle.plain_script.specs.declared.event.Event.{Event}
 use Rattle.plain_script.specs.declared.numbered.Numbered.{Numbered}
 use Rattle.plain_script.specs.declared.statement.Statement.{Statement}
 use Rattle.plain_script.specs.declared.statement.Statement.TheVariants.{Plain, Declare, Begin, Happen}
-use Rattle.plain_script.specs.declared.rule.ScriptRule.TheVariants.{BadLine, TooLarge}
-use Rattle.plain_script.proofs.FirstLine.{kept_all, all_kept}
+use Rattle.script_lines.specs.declared.rule.ScriptRule.TheVariants.{BadLine, TooLarge}
+use Rattle.script_lines.proofs.FirstLine.{kept_all, all_kept}
 use Rattle.line_text.proofs.WordReading.{some_is}
 use Rattle.line_text.proofs.Joining.{lines_of-spelled, AreLines-lines_of, joined-lines_of}
 use Rattle.plain_script.proofs.PlainWords.{line_only, line_found, line_lacks}
@@ -71,14 +73,14 @@ are_spelled before front (line ∷ lines) keeps feeds =
 
 -- ---- what was read
 
-pub within : (script : List ℕ) (told : ScriptTold) → reading_of script ≡ Ok told → (length script ≤ most_bytes) × (reading_lines (lines_of script) (first_refused [] (lines_of script)) ≡ Ok told)
+pub within : (script : List ℕ) (told : ScriptTold) → reading_of script ≡ Ok told → (length script ≤ most_bytes) × (unless_refused (first_refused line_rule [] (lines_of script)) (reading_whole (lines_of script)) ≡ Ok told)
 within script told e = by_size (ltb most_bytes (length script)) refl e
   where
-    by_size : (b : Bool) → ltb most_bytes (length script) ≡ b → cond b (Err (record { line = 0; rule = TooLarge })) (reading_lines (lines_of script) (first_refused [] (lines_of script))) ≡ Ok told → (length script ≤ most_bytes) × (reading_lines (lines_of script) (first_refused [] (lines_of script)) ≡ Ok told)
+    by_size : (b : Bool) → ltb most_bytes (length script) ≡ b → cond b (Err (record { line = 0; rule = TooLarge })) (unless_refused (first_refused line_rule [] (lines_of script)) (reading_whole (lines_of script))) ≡ Ok told → (length script ≤ most_bytes) × (unless_refused (first_refused line_rule [] (lines_of script)) (reading_whole (lines_of script)) ≡ Ok told)
     by_size true h f = absurd cc
     by_size false h f = (ltb-false most_bytes (length script) h, f)
 
-pub unrefused : (lines : List Line) (refused : Option Refused) (told : ScriptTold) → reading_lines lines refused ≡ Ok told → (refused ≡ None) × (reading_whole lines ≡ Ok told)
+pub unrefused : (lines : List Line) (refused : Option Refused) (told : ScriptTold) → unless_refused refused (reading_whole lines) ≡ Ok told → (refused ≡ None) × (reading_whole lines ≡ Ok told)
 unrefused lines None told e = (refl, e)
 unrefused lines (Some r) told e = absurd cc
 
@@ -114,7 +116,7 @@ pub was_read : (script : List ℕ) (told : ScriptTold) → reading_of script ≡
 was_read script told e =
     let a = within script told e in
     let lines : List Line = lines_of script in
-    let b = unrefused lines (first_refused [] lines) told a.1 in
+    let b = unrefused lines (first_refused line_rule [] lines) told a.1 in
     let keeps : Keeps (front_of []) lines = keeps_from [] lines b.0 in
     let s = are_spelled 0 (front_of []) lines keeps (no_feeds lines (AreLines-lines_of script)) in
     let c = chosen_ok (says_nothing (statements_of lines) || list_any is_begin (statements_of lines)) (record { declarations = declarations_of (statements_of lines); events = events_from 0 lines }) told (record { line = length lines + 1; rule = BadLine }) b.1 in
@@ -126,7 +128,7 @@ was_read script told e =
       record {
         spelled = record { texts = s.texts; spelled = s.spelled; script_is = sym (joined-lines_of script) ∙ (ap joined_lines s.lines_are ∙ joined_ended s.texts) };
         tells = subst (IsScriptOf s.told) c.1 tells;
-        kept = all_kept lines b.0;
+        kept = all_kept line_rule lines b.0;
         small = a.0;
       },
     )
@@ -192,7 +194,7 @@ whole_is (s ∷ ss) ds es h = record { whole = ap (list_any is_begin) h ∙ orde
 pub is_read : (script : List ℕ) (lines : List ScriptLine) (told : ScriptTold) → IsReadAs script lines told → reading_of script ≡ Ok told
 is_read script lines told h =
     let s : SpellScript lines script = h.spelled in
-    let kept : first_refused [] (lines_of script) ≡ None = kept_all (lines_of script) h.kept in
+    let kept : first_refused line_rule [] (lines_of script) ≡ None = kept_all line_rule (lines_of script) h.kept in
     let are : lines_of script ≡ map ended_line s.texts = script_lines lines script s in
     let statements : statements_of (lines_of script) ≡ flat_map says lines = ap statements_of are ∙ all_say lines s.texts s.spelled in
     let events : events_from 0 (lines_of script) ≡ told.events = ap (events_from 0) are ∙ (all_tell 0 lines s.texts s.spelled ∙ sym h.tells.events) in
@@ -201,7 +203,7 @@ is_read script lines told h =
     let declared : declarations_of (statements_of (lines_of script)) ≡ told.declarations = ap declarations_of statements ∙ w.declared in
     let fits : ltb most_bytes (length script) ≡ false = le-ltb most_bytes (length script) h.small in
     let last : reading_whole (lines_of script) ≡ Ok told = rw (whole, declared, events) refl in
-    rw fits (ap (reading_lines (lines_of script)) kept ∙ last)
+    rw fits (ap (λ (r : Option Refused). unless_refused r (reading_whole (lines_of script))) kept ∙ last)
 
 -- ---- one spelling
 

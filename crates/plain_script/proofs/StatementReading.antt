@@ -7,8 +7,10 @@ use Rattle.std.specs.Option.{option_map}
 use Rattle.std.proofs.lemmas.Option.{cond_some}
 use Rattle.dh_base.specs.Names.{is_name}
 use Rattle.line_text.specs.Reading.{◌>>=◌, name_word, amount_word, number_u32_word, ended}
-use Rattle.plain_script.specs.Said.{keyword_text, keyword_of, names_only, ledger_after, open_after, deal_after, register_after, escrow_after, transfer_after, log_after, claim_after, statement_after, statement_of_words}
-use Rattle.plain_script.specs.Spelling.{declaration_words, SpellsNumber, SpellsEvent, SpellsStatement, IsGoodDeclaration, IsGoodEvent, IsGoodStatement}
+use Rattle.script_lines.specs.WordLists.{names_only, SpellsNumber}
+use Rattle.script_lines.proofs.NumberWords.{number_taken, number_again}
+use Rattle.plain_script.specs.Said.{keyword_text, keyword_of, ledger_after, open_after, deal_after, register_after, escrow_after, transfer_after, log_after, claim_after, statement_after, statement_of_words}
+use Rattle.plain_script.specs.Spelling.{declaration_words, SpellsEvent, SpellsStatement, IsGoodDeclaration, IsGoodEvent, IsGoodStatement}
 use Rattle.plain_script.specs.declared.declaration.Declaration.{Declaration}
 use Rattle.plain_script.specs.declared.declaration.Declaration.TheVariants.{Ledger, Open, Deal}
 use Rattle.plain_script.specs.declared.event.Event.{Event}
@@ -18,7 +20,7 @@ use Rattle.plain_script.specs.declared.keyword.Keyword.TheVariants as key
 use Rattle.plain_script.specs.declared.statement.Statement.{Statement}
 use Rattle.plain_script.specs.declared.statement.Statement.TheVariants.{Plain, House, Declare, Begin, Happen}
 use Rattle.line_text.proofs.WordReading.{Words, bind_some, some_is, one_more, read_end, name_taken, name_again, amount_taken, amount_again}
-use Rattle.plain_script.proofs.FirstWords.{number_taken, number_again, keyword_is, keyword_again}
+use Rattle.plain_script.proofs.FirstWords.{keyword_is, keyword_again}
 
 -- ---- declarations
 

@@ -2,14 +2,15 @@
 use Rattle.std.specs.Prelude.{ℕ, ◌+◌, if◌then◌else◌, List, [], ◌∷◌, ◌++◌, length, Option, None}
 use Rattle.line_text.specs.Lines.{Line}
 use Rattle.plain_script.specs.Rules.{place_after, declarations_of, declared_by, said_rule, is_begin}
-use Rattle.plain_script.specs.Reading.{passes_over, said_by, statements_by, statements_of, events_from, events_at}
+use Rattle.script_lines.specs.LineRules.{passes_over}
+use Rattle.plain_script.specs.Reading.{said_by, statements_by, statements_of, events_from, events_at}
 use Rattle.plain_script.specs.declared.declaration.Declaration.{Declaration}
 use Rattle.plain_script.specs.declared.event.Event.{Event}
 use Rattle.plain_script.specs.declared.numbered.Numbered.{Numbered}
 use Rattle.plain_script.specs.declared.statement.Statement.{Statement}
-use Rattle.plain_script.specs.declared.rule.ScriptRule.{ScriptRule}
-use Rattle.plain_script.specs.declared.place.Place.{Place}
-use Rattle.plain_script.specs.declared.place.Place.TheVariants.{Head, Declarations, Events}
+use Rattle.script_lines.specs.declared.rule.ScriptRule.{ScriptRule}
+use Rattle.script_lines.specs.declared.place.Place.{Place}
+use Rattle.script_lines.specs.declared.place.Place.TheVariants.{Head, Declarations, Events}
 
 pub record Front : Type 0 where
   pub number : ℕ

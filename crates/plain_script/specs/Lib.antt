@@ -1,13 +1,11 @@
 pub mod Spelling
 pub mod Said
 pub mod Rules
-pub mod RuleNames
 pub mod BoundNames
 pub mod OpeningRows
 pub mod Ids
 pub mod Limits
 pub mod Reading
-pub mod Positions
 pub mod Answers
 pub mod Fronts
 pub mod Kept

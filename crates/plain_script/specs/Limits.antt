@@ -1,10 +1,6 @@
 -- The limits of a plain script.
 use Rattle.std.specs.Prelude.{ℕ}
 
--- the most lines that may say something
-abbrev pub most_lines : ℕ
-most_lines = 20000
-
 abbrev pub most_ledgers : ℕ
 most_ledgers = 8
 

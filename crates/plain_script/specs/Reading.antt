@@ -1,27 +1,19 @@
 -- Reading a script: the first line that breaks a rule, or what the script declares and what happens
 -- in it.
-use Rattle.std.specs.Prelude.{ℕ, ◌+◌, Bool, true, false, ◌&&◌, ◌||◌, if◌then◌else◌, nat_lt, List, [], ◌∷◌, ◌++◌, length, Option, Some, None, Result, Ok, Err}
+use Rattle.std.specs.Prelude.{ℕ, ◌+◌, Bool, true, false, ◌&&◌, ◌||◌, if◌then◌else◌, List, [], ◌∷◌, ◌++◌, length, Option, Some, None, Result, Ok, Err}
 use Rattle.std.specs.List.{list_any, flat_map}
 use Rattle.std.specs.Option.{option_to_list}
-use Rattle.line_text.specs.Lines.{Line, lines_of, is_passed_over}
+use Rattle.line_text.specs.Lines.{Line}
+use Rattle.script_lines.specs.LineRules.{passes_over}
+use Rattle.script_lines.specs.Refusals.{Refused, reading_by}
 use Rattle.plain_script.specs.Said.{statement_of}
 use Rattle.plain_script.specs.Rules.{place_after, declarations_of, said_rule, is_begin}
 use Rattle.plain_script.specs.declared.declaration.Declaration.{Declaration}
 use Rattle.plain_script.specs.declared.numbered.Numbered.{Numbered}
 use Rattle.plain_script.specs.declared.statement.Statement.{Statement}
 use Rattle.plain_script.specs.declared.statement.Statement.TheVariants.{Plain, House, Declare, Begin, Happen}
-use Rattle.plain_script.specs.declared.rule.ScriptRule.{ScriptRule}
-use Rattle.plain_script.specs.declared.rule.ScriptRule.TheVariants.{BadLine, TooLarge}
-
--- The line that a script is refused for, and the rule that it breaks. Lines count from 1; line 0 is
--- the script as a whole.
-pub record Refused : Type 0 where
-  pub line : ℕ
-  pub rule : ScriptRule
-
--- A line that has its LF and is empty or a comment is passed over.
-abbrev pub passes_over : Line → Bool
-passes_over line = line.ended && is_passed_over line.text
+use Rattle.script_lines.specs.declared.rule.ScriptRule.{ScriptRule}
+use Rattle.script_lines.specs.declared.rule.ScriptRule.TheVariants.{BadLine}
 
 -- what a line says; a line without its LF says nothing
 abbrev pub said_by : Line → Option Statement
@@ -40,17 +32,6 @@ line_rule before line =
     if passes_over line then None
     else said_rule (length before) (place_after (statements_of before))
     (declarations_of (statements_of before)) (said_by line)
-
--- at this line, or what comes later
-abbrev pub at_line : ℕ → Option ScriptRule → Option Refused → Option Refused
-at_line number None later = later
-at_line number (Some rule) later = Some (record { line = number; rule = rule })
-
--- the first of the lines `rest` that breaks a rule, where they stand after the lines `before`
-abbrev pub first_refused : List Line → List Line → Option Refused
-first_refused before [] = None
-first_refused before (line ∷ rest) =
-    at_line (length before + 1) (line_rule before line) (first_refused (before ++ line ∷ []) rest)
 
 -- what happens, each with the number of its line
 abbrev pub events_at : ℕ → Statement → List Numbered
@@ -84,15 +65,5 @@ reading_whole lines =
     })
     else Err (record { line = length lines + 1; rule = BadLine })
 
-abbrev pub reading_lines : List Line → Option Refused → Result ScriptTold Refused
-reading_lines lines (Some refused) = Err refused
-reading_lines lines None = reading_whole lines
-
--- the greatest number of bytes of a script
-abbrev pub most_bytes : ℕ
-most_bytes = 2097152
-
 abbrev pub reading_of : List ℕ → Result ScriptTold Refused
-reading_of script =
-    if nat_lt most_bytes (length script) then Err (record { line = 0; rule = TooLarge })
-    else reading_lines (lines_of script) (first_refused [] (lines_of script))
+reading_of script = reading_by line_rule reading_whole script

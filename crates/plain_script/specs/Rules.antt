@@ -3,20 +3,20 @@ use Rattle.std.specs.Prelude.{ℕ, ◌≡◌, Bool, true, false, not, ◌&&◌, 
 use Rattle.std.specs.List.{list_any, flat_map}
 use Rattle.std.specs.Str.{bytes_eq}
 use Rattle.line_text.specs.Faults.{broken_if}
-use Rattle.plain_script.specs.Limits.{most_lines, most_ledgers, most_deals, most_members, most_parties, most_rows}
+use Rattle.plain_script.specs.Limits.{most_ledgers, most_deals, most_members, most_parties, most_rows}
 use Rattle.plain_script.specs.BoundNames.{is_ledger, is_deal, is_party, is_thing, is_bound, parties_of, is_ledger_line, is_deal_line, is_opening_line, are_different}
 use Rattle.plain_script.specs.OpeningRows.{is_good_row}
-use Rattle.plain_script.specs.RuleNames.{rule_number}
+use Rattle.script_lines.specs.LineRules.{within_limit}
 use Rattle.plain_script.specs.declared.declaration.Declaration.{Declaration}
 use Rattle.plain_script.specs.declared.declaration.Declaration.TheVariants.{Ledger, Open, Deal}
 use Rattle.plain_script.specs.declared.event.Event.{Event}
 use Rattle.plain_script.specs.declared.event.Event.TheVariants.{Register, Escrow, Transfer, Start, Commit, Abort, Claim}
 use Rattle.plain_script.specs.declared.statement.Statement.{Statement}
 use Rattle.plain_script.specs.declared.statement.Statement.TheVariants.{Plain, House, Declare, Begin, Happen}
-use Rattle.plain_script.specs.declared.rule.ScriptRule.{ScriptRule}
-use Rattle.plain_script.specs.declared.rule.ScriptRule.TheVariants.{BadLine, NameTwice, UnknownName, BadOpening, TooMany, NotBuilt}
-use Rattle.plain_script.specs.declared.place.Place.{Place}
-use Rattle.plain_script.specs.declared.place.Place.TheVariants.{Head, Declarations, Events}
+use Rattle.script_lines.specs.declared.rule.ScriptRule.{ScriptRule}
+use Rattle.script_lines.specs.declared.rule.ScriptRule.TheVariants.{BadLine, NameTwice, UnknownName, BadOpening, TooMany, NotBuilt}
+use Rattle.script_lines.specs.declared.place.Place.{Place}
+use Rattle.script_lines.specs.declared.place.Place.TheVariants.{Head, Declarations, Events}
 
 -- ---- the rule that a declaration breaks, the least of them
 
@@ -128,16 +128,7 @@ statement_rule Events ds (Declare d) = Some BadLine
 statement_rule Events ds Begin = Some BadLine
 statement_rule Events ds (Happen e) = event_rule ds e
 
--- of two rules that a line may break, that of the lesser number
-abbrev pub lesser_rule : Option ScriptRule → Option ScriptRule → Option ScriptRule
-lesser_rule None other = other
-lesser_rule (Some rule) None = Some rule
-lesser_rule (Some rule) (Some other) =
-    if nat_le (rule_number rule) (rule_number other) then Some rule else Some other
-
--- the rule that a line breaks which isn't passed over: beyond the 20,000th line it breaks the limit
--- of lines too
+-- the rule that a line breaks which isn't passed over
 abbrev pub said_rule : ℕ → Place → List Declaration → Option Statement → Option ScriptRule
 said_rule before place ds None = Some BadLine
-said_rule before place ds (Some s) =
-    lesser_rule (statement_rule place ds s) (broken_if (nat_le most_lines before) TooMany None)
+said_rule before place ds (Some s) = within_limit before (statement_rule place ds s)

@@ -1,11 +1,10 @@
 -- What a line of a plain script says, read from its words.
 use Rattle.std.specs.Prelude.{ℕ, if◌then◌else◌, List, [], ◌∷◌, Option, Some, None, codes}
-use Rattle.std.specs.List.{list_all}
 use Rattle.std.specs.Option.{option_map}
 use Rattle.std.specs.Str.{bytes_eq}
-use Rattle.dh_base.specs.Names.{is_name}
 use Rattle.line_text.specs.Words.{words_of}
 use Rattle.line_text.specs.Reading.{◌>>=◌, name_word, amount_word, number_u32_word, ended}
+use Rattle.script_lines.specs.WordLists.{names_only}
 use Rattle.plain_script.specs.declared.keyword.Keyword.{Keyword}
 use Rattle.plain_script.specs.declared.keyword.Keyword.TheVariants as key
 use Rattle.plain_script.specs.declared.declaration.Declaration.{Declaration}
@@ -60,10 +59,6 @@ either_keyword None other = other
 
 unfoldable pub keyword_of : List ℕ → Option Keyword
 keyword_of word = either_keyword (opening_keyword word) (event_keyword word)
-
--- all the words, where each is a name
-abbrev pub names_only : List (List ℕ) → Option (List (List ℕ))
-names_only ws = if list_all is_name ws then Some ws else None
 
 -- ---- what stands behind each keyword
 

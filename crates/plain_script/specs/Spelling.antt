@@ -6,9 +6,10 @@ use Rattle.dh_base.specs.Names.{is_name}
 use Rattle.line_text.specs.Bytes.{lacks}
 use Rattle.line_text.specs.Lines.{lines_of, spelled_lines, is_passed_over}
 use Rattle.line_text.specs.Words.{spelled_words}
-use Rattle.line_text.specs.Numbers.{number_of}
-use Rattle.plain_script.specs.Reading.{ScriptTold, events_at, most_bytes}
-use Rattle.plain_script.specs.Positions.{KeepRules}
+use Rattle.script_lines.specs.WordLists.{SpellsNumber}
+use Rattle.script_lines.specs.LineRules.{most_bytes}
+use Rattle.plain_script.specs.Reading.{ScriptTold, events_at, line_rule}
+use Rattle.script_lines.specs.Positions.{KeepRules}
 use Rattle.plain_script.specs.declared.declaration.Declaration.{Declaration}
 use Rattle.plain_script.specs.declared.declaration.Declaration.TheVariants.{Ledger, Open, Deal}
 use Rattle.plain_script.specs.declared.event.Event.{Event}
@@ -24,12 +25,6 @@ declaration_words (Ledger name) = codes "ledger" ∷ name ∷ []
 declaration_words (Open ledger asset party amount) =
     codes "open" ∷ ledger ∷ asset ∷ party ∷ decimal amount ∷ []
 declaration_words (Deal name parties) = codes "deal" ∷ name ∷ parties
-
--- The word is this number of 32 bits in decimal. A number that exceeds its field is any of 2 ^ 32
--- or more.
-abbrev pub SpellsNumber : Option ℕ → List ℕ → Type 0
-SpellsNumber (Some n) word = (n < 2 ^ 32) × (word ≡ decimal n)
-SpellsNumber None word = (n : ℕ) × (2 ^ 32 ≤ n) × (number_of word ≡ Some n)
 
 abbrev pub SpellsEvent : Event → List (List ℕ) → Type 0
 SpellsEvent (Register ledger deal party) words =
@@ -145,5 +140,5 @@ pub record IsScriptOf (lines : List ScriptLine) (told : ScriptTold) : Type 0 whe
 pub record IsReadAs (script : List ℕ) (lines : List ScriptLine) (told : ScriptTold) : Type 0 where
   pub spelled : SpellScript lines script
   pub tells : IsScriptOf lines told
-  pub kept : KeepRules (lines_of script)
+  pub kept : KeepRules line_rule (lines_of script)
   pub small : length script ≤ most_bytes

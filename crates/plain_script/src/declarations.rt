@@ -34,8 +34,8 @@ ghost use Rattle.plain_script.specs.Rules.{
 
 use crate::declaration::Declaration;
 use crate::event::Event;
-use crate::rule::ScriptRule;
 use dh_base::{GREATEST_AMOUNT, Name, NoMemory};
+use script_lines::ScriptRule;
 use std::alloc::Global;
 use std::collections::BTreeSet;
 use std::marker::Model;

@@ -2,23 +2,25 @@
 
 ghost use Rattle.std.specs.Prelude.{◌≡◌, ◌+◌, ◌-◌, ◌^◌, ◌<◌, ◌↔◌, ℕ, List, [], length, Ok, Some, None};
 ghost use Rattle.line_text.specs.Lines.{Line};
-ghost use Rattle.plain_script.specs.Reading.{Refused, ScriptTold, first_refused, reading_of};
-ghost use Rattle.plain_script.specs.Positions.{IsFirstBroken, KeepRules};
+ghost use Rattle.script_lines.specs.Refusals.{Refused, first_refused};
+ghost use Rattle.plain_script.specs.Reading.{ScriptTold, line_rule, reading_of};
+ghost use Rattle.script_lines.specs.Positions.{IsFirstBroken, KeepRules};
 ghost use Rattle.plain_script.specs.Rules.{DeclareByRules};
 ghost use Rattle.plain_script.specs.Spelling.{Spells, ScriptLine, SpellScript, IsReadAs};
 ghost use Rattle.plain_script.specs.Said.{statement_of};
-ghost use Rattle.plain_script.specs.declared.rule.ScriptRule.{ScriptRule};
+ghost use Rattle.script_lines.specs.declared.rule.ScriptRule.{ScriptRule};
 ghost use Rattle.plain_script.specs.declared.statement.Statement.{Statement};
 
 /// The line that is refused is the first one that breaks a rule, and none is refused where none
 /// breaks one.
 pub fn first_line()
     ensures some { (lines : List Line) (k : ℕ) (rule : ScriptRule) →
-        ((first_refused [] lines ≡ Some (record { line = k + 1; rule = rule }))
-        ↔ IsFirstBroken lines k rule) }
-    ensures none { (lines : List Line) → ((first_refused [] lines ≡ None) ↔ KeepRules lines) }
+        ((first_refused line_rule [] lines ≡ Some (record { line = k + 1; rule = rule }))
+        ↔ IsFirstBroken line_rule lines k rule) }
+    ensures none { (lines : List Line) → ((first_refused line_rule [] lines ≡ None)
+        ↔ KeepRules line_rule lines) }
     ensures counted { (lines : List Line) (refused : Refused)
-        → first_refused [] lines ≡ Some refused →
+        → first_refused line_rule [] lines ≡ Some refused →
         (k : ℕ) × (refused.line ≡ k + 1) }
 {}
 

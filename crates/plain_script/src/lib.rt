@@ -7,9 +7,8 @@
 //! - `keyword`, `first_word`, `saying`: reading it from the line's words.
 //! - `declarations`: what the lines so far have declared, and the rules of a declaration.
 //! - `ids`: the ids that plain parties and deals have in books and logs.
-//! - `place`, `reader`: the lines so far, and the rule that the next one breaks.
+//! - `reader`: the lines so far, and the rule that the next one breaks.
 //! - `script`: a whole script.
-//! - `rule`, `refused_line`, `halt`: why a script is refused, and how that is told.
 //! - `laws`: the grammar and the first refused line.
 #![tactic(auto)]
 
@@ -17,15 +16,11 @@ pub mod declaration;
 pub mod declarations;
 pub mod event;
 mod first_word;
-pub mod halt;
 pub mod ids;
 pub mod keyword;
 pub mod laws;
 pub mod numbered;
-pub mod place;
 mod reader;
-pub mod refused_line;
-pub mod rule;
 mod saying;
 pub mod script;
 pub mod statement;
@@ -33,11 +28,7 @@ pub mod statement;
 pub use declaration::Declaration;
 pub use declarations::Declarations;
 pub use event::Event;
-pub use halt::PlainHalt;
 pub use ids::{plain_id, plain_ids};
 pub use numbered::Numbered;
-pub use place::Place;
-pub use refused_line::RefusedLine;
-pub use rule::ScriptRule;
 pub use script::{Script, read_script};
 pub use statement::Statement;

@@ -1,29 +1,21 @@
 //! What the lines so far say, line by line.
 
-ghost use Rattle.std.specs.Prelude.{◌≡◌, ◌<◌, ◌≤◌, ◌+◌, ◌-◌, ◌^◌, nat_le, [], Ok, Some, None, IfOk, IfNone, OnOk};
+ghost use Rattle.std.specs.Prelude.{◌≡◌, ◌<◌, ◌≤◌, ◌+◌, ◌-◌, ◌^◌, [], Ok, Some, None, IfOk, IfNone, OnOk};
 ghost use Rattle.std.specs.Option.{option_to_list};
-ghost use Rattle.line_text.specs.Faults.{broken_if};
 ghost use Rattle.line_text.specs.Seen.{line_of};
-ghost use Rattle.plain_script.specs.Limits.{most_lines};
-ghost use Rattle.plain_script.specs.Rules.{statement_rule, event_rule, said_rule, lesser_rule};
-ghost use Rattle.plain_script.specs.declared.rule.ScriptRule.TheVariants.{TooMany};
+ghost use Rattle.plain_script.specs.Rules.{statement_rule, event_rule, said_rule};
 ghost use Rattle.plain_script.specs.Fronts.{front_of, rule_behind, stated, stated_all, happened, front_after};
 
 use crate::declarations::Declarations;
 use crate::event::Event;
 use crate::numbered::Numbered;
-use crate::place::Place;
-use crate::rule::ScriptRule;
 use crate::saying::statement;
 use crate::statement::Statement;
 use dh_base::NoMemory;
 use line_text::TextLine;
-use line_text::text_line::is_passed_over;
+use script_lines::{Place, ScriptRule, passes_over, within_limit};
 use std::alloc::Global;
 use std::marker::Model;
-
-/// The most lines of a script that may say something.
-const MOST_LINES: u32 = 20000;
 
 /// What the lines so far say. A contract sees it as the front of a script.
 #[derive(Drop)]
@@ -32,28 +24,6 @@ pub struct Reader {
     place: Place,
     declarations: Declarations,
     events: Vec<Numbered>,
-}
-
-/// The limit of lines, where so many lines stand before one that says something.
-fn limit_rule(before: u32) -> Option<ScriptRule>
-    ensures { result ≡ broken_if (nat_le most_lines before) TooMany None }
-{
-    if before >= MOST_LINES {
-        Some(ScriptRule::TooMany)
-    } else {
-        None
-    }
-}
-
-/// Of two rules that a line may break, that of the lesser number.
-fn lesser_rule(rule: Option<ScriptRule>, other: Option<ScriptRule>) -> Option<ScriptRule>
-    ensures { result ≡ lesser_rule rule other }
-{
-    match (rule, other) {
-        (Some(rule), Some(other)) if other.number() < rule.number() => Some(other),
-        (Some(rule), _) => Some(rule),
-        (None, other) => other,
-    }
 }
 
 impl Model for Reader {
@@ -169,8 +139,7 @@ impl Reader {
             return Ok(Some(ScriptRule::BadLine));
         };
         let rule = self.state(alloc, statement)?;
-        let limit = limit_rule(self.number);
-        Ok(lesser_rule(rule, limit))
+        Ok(within_limit(self.number, rule))
     }
 
     /// Takes the next line, or answers the rule that it breaks.
@@ -185,7 +154,7 @@ impl Reader {
             ≡ front_after self.old (line_of line.now))) }
         ensures number { OnOk result (self.new.number ≡ self.old.number + 1) }
     {
-        if line.ended && is_passed_over(line.text) {
+        if passes_over(line) {
             self.number += 1;
             return Ok(None);
         }

@@ -4,7 +4,6 @@ ghost use Rattle.std.specs.Prelude.{◌≡◌, IfOk};
 ghost use Rattle.line_text.specs.Reading.{ended as none_left};
 ghost use Rattle.plain_script.specs.declared.event.Event.TheVariants.{Start as StartOf, Commit as CommitOf, Abort as AbortOf};
 ghost use Rattle.plain_script.specs.Said.{
-  names_only,
   ledger_after,
   open_after,
   deal_after,
@@ -22,8 +21,9 @@ use crate::event::Event;
 use crate::first_word::keyword;
 use crate::keyword::Keyword;
 use crate::statement::Statement;
-use dh_base::{List, Name, NoMemory};
+use dh_base::NoMemory;
 use line_text::Words;
+use script_lines::names;
 use std::alloc::Global;
 
 #[tactic(auto, unfolding(crate::specs::Said::ledger_after))]
@@ -166,20 +166,6 @@ fn claim(mut words: Words<'_>) -> Option<Event>
         return None;
     }
     Some(Event::Claim { ledger, deal, len })
-}
-
-/// The words that are left, where each is a name.
-fn names(alloc: Global, mut words: Words<'_>) -> Result<Option<List<Name>>, NoMemory>
-    ensures { IfOk result (λ names. names ≡ names_only words.entry) }
-{
-    let mut names = Vec::new(alloc);
-    while !words.is_done() {
-        match words.name() {
-            Some(name) => names.push(name)?,
-            None => return Ok(None),
-        }
-    }
-    Ok(Some(List::from_vec(names)))
 }
 
 #[tactic(auto, unfolding(crate::specs::Said::deal_after))]

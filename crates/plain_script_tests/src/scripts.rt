@@ -1,5 +1,6 @@
 use dh_base::{Name, NoMemory};
-use plain_script::{Declaration, Event, PlainHalt, RefusedLine, ScriptRule, read_script};
+use plain_script::{Declaration, Event, read_script};
+use script_lines::{RefusedLine, ScriptHalt};
 use std::alloc::{AllocError, Global};
 use std::process::Abort;
 use std::test::Fail;
@@ -8,8 +9,8 @@ use std::test::Fail;
 fn refusal(alloc: Global, script: &[u8]) -> Result<Option<RefusedLine>, NoMemory> {
     match read_script(alloc, script) {
         Ok(_) => Ok(None),
-        Err(PlainHalt::Refused { line, rule }) => Ok(Some(RefusedLine { line, rule })),
-        Err(PlainHalt::NoMemory) => Err(NoMemory),
+        Err(ScriptHalt::Refused { line, rule }) => Ok(Some(RefusedLine { line, rule })),
+        Err(ScriptHalt::NoMemory) => Err(NoMemory),
     }
 }
 
@@ -298,19 +299,5 @@ fn a_script_tells_what_it_declares_and_what_happens(rt: HostRuntime) -> Result<(
     assert!(rt; matches!(start.event, Event::Start { .. }));
     assert_eq!(rt; claim.line, 10);
     assert!(rt; matches!(claim.event, Event::Claim { len: None, .. }));
-    Ok(())
-}
-
-#[test]
-fn a_refused_line_is_told(rt: HostRuntime) -> Result<(), Fail> {
-    assert_eq!(rt; ScriptRule::BadOpening.answered(), ScriptRule::BadLine);
-    assert_eq!(rt; ScriptRule::TooLarge.answered(), ScriptRule::TooLarge);
-    assert_eq!(rt; ScriptRule::NotBuilt.answered(), ScriptRule::NotBuilt);
-    let refused = RefusedLine {
-        line: 12,
-        rule: ScriptRule::OutOfRange,
-    };
-    let told = format!(in rt.alloc(); "{refused}")?;
-    assert!(rt; told.as_str() == "line 12 rule 10 OutOfRange");
     Ok(())
 }

@@ -33,7 +33,7 @@ fn twenty_thousand_lines_may_say_something(rt: HostRuntime) -> Result<(), Fail> 
     let passed_over = format!(in alloc; "{most}\n# more\n")?;
     is_told(&rt, alloc, passed_over.as_str(), "")?;
     let many = format!(in alloc; "{before}\nplain\nbegin\n")?;
-    is_refused(&rt, alloc, many.as_str(), "line 20001 rule 1 BadLine\n")?;
+    is_refused(&rt, alloc, many.as_str(), "line 20001 rule 9 TooMany\n")?;
     let no_begin = format!(in alloc; "{before}plain\n\n\n")?;
     is_refused(&rt, alloc, no_begin.as_str(), "line 20002 rule 1 BadLine\n")
 }
@@ -55,7 +55,7 @@ fn a_script_has_8_ledgers(rt: HostRuntime) -> Result<(), Fail> {
         "ledger l0\nledger l1\nledger l2\nledger l3\nledger l4\nledger l5\nledger l6\nledger l7\n";
     is_told(&rt, alloc, ledgers(alloc, 8)?.as_str(), report)?;
     let many = ledgers(alloc, 9)?;
-    is_refused(&rt, alloc, many.as_str(), "line 10 rule 1 BadLine\n")
+    is_refused(&rt, alloc, many.as_str(), "line 10 rule 9 TooMany\n")
 }
 
 /// The declarations of 64 deals of four parties each, all of them different.
@@ -74,13 +74,13 @@ fn a_script_has_64_deals_and_256_parties(rt: HostRuntime) -> Result<(), Fail> {
     let most = format!(in alloc; "{deals}ledger a\nopen a coin p0 1\nbegin\n")?;
     is_told(&rt, alloc, most.as_str(), "ledger a\nfree coin p0 1\n")?;
     let many_deals = format!(in alloc; "{deals}deal e p0 q0\nbegin\n")?;
-    is_refused(&rt, alloc, many_deals.as_str(), "line 66 rule 1 BadLine\n")?;
+    is_refused(&rt, alloc, many_deals.as_str(), "line 66 rule 9 TooMany\n")?;
     let many_parties = format!(in alloc; "{deals}ledger a\nopen a coin t 1\nbegin\n")?;
     is_refused(
         &rt,
         alloc,
         many_parties.as_str(),
-        "line 67 rule 1 BadLine\n",
+        "line 67 rule 9 TooMany\n",
     )
 }
 
@@ -91,7 +91,7 @@ fn a_deal_has_16_parties(rt: HostRuntime) -> Result<(), Fail> {
     let most = format!(in alloc; "{deal}\nbegin\n")?;
     is_told(&rt, alloc, most.as_str(), "")?;
     let many = format!(in alloc; "{deal} b6\nbegin\n")?;
-    is_refused(&rt, alloc, many.as_str(), "line 2 rule 1 BadLine\n")
+    is_refused(&rt, alloc, many.as_str(), "line 2 rule 9 TooMany\n")
 }
 
 /// Lines for the assets 1000 to 2023, with the asset's number between the two texts.
@@ -112,9 +112,9 @@ fn a_script_has_1024_opening_rows(rt: HostRuntime) -> Result<(), Fail> {
     let report = format!(in alloc; "ledger a\n{free}ledger b\n")?;
     is_told(&rt, alloc, most.as_str(), report.as_str())?;
     let many = format!(in alloc; "plain\nledger a\nledger b\n{rows}open a y p 1\nbegin\n")?;
-    is_refused(&rt, alloc, many.as_str(), "line 1028 rule 1 BadLine\n")?;
+    is_refused(&rt, alloc, many.as_str(), "line 1028 rule 7 BadOpening\n")?;
     let spread = format!(in alloc; "plain\nledger a\nledger b\n{rows}open b y p 1\nbegin\n")?;
-    is_refused(&rt, alloc, spread.as_str(), "line 1028 rule 1 BadLine\n")
+    is_refused(&rt, alloc, spread.as_str(), "line 1028 rule 9 TooMany\n")
 }
 
 #[test]
@@ -124,7 +124,7 @@ fn an_asset_opens_with_less_than_2_to_the_power_of_63(rt: HostRuntime) -> Result
     let report = "ledger a\nfree x p 9223372036854775806\nfree x q 1\n";
     is_told(&rt, alloc, most, report)?;
     let many = "plain\nledger a\nopen a x p 9223372036854775807\nopen a x q 1\nbegin\n";
-    is_refused(&rt, alloc, many, "line 4 rule 1 BadLine\n")
+    is_refused(&rt, alloc, many, "line 4 rule 7 BadOpening\n")
 }
 
 #[test]

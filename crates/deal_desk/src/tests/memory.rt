@@ -42,7 +42,7 @@ fn a_refused_line_is_whole_or_memory_ran_out(rt: HostRuntime) {
         "rehearse",
         script,
         2,
-        "line 6 rule 1 BadLine\n",
+        "line 6 rule 10 OutOfRange\n",
     );
 }
 

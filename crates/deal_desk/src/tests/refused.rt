@@ -95,29 +95,29 @@ fn a_declaration_has_its_form(rt: HostRuntime) -> Result<(), Fail> {
     check_table(&rt, rt.alloc(), DECLARED, DECLARATION_FORMS)
 }
 
-const DECLARATIONS: &str = "ledger coins| => line 5 rule 1 BadLine
-ledger ann| => line 5 rule 1 BadLine
-ledger ben| => line 5 rule 1 BadLine
-ledger d| => line 5 rule 1 BadLine
-deal d cat dan| => line 5 rule 1 BadLine
-deal coins cat dan| => line 5 rule 1 BadLine
-deal ann cat dan| => line 5 rule 1 BadLine
-deal e cat coins| => line 5 rule 1 BadLine
-deal e cat d| => line 5 rule 1 BadLine
-deal e cat e| => line 5 rule 1 BadLine
+const DECLARATIONS: &str = "ledger coins| => line 5 rule 2 NameTwice
+ledger ann| => line 5 rule 2 NameTwice
+ledger ben| => line 5 rule 2 NameTwice
+ledger d| => line 5 rule 2 NameTwice
+deal d cat dan| => line 5 rule 2 NameTwice
+deal coins cat dan| => line 5 rule 2 NameTwice
+deal ann cat dan| => line 5 rule 2 NameTwice
+deal e cat coins| => line 5 rule 2 NameTwice
+deal e cat d| => line 5 rule 2 NameTwice
+deal e cat e| => line 5 rule 2 NameTwice
 deal e cat| => line 5 rule 1 BadLine
 deal e cat cat| => line 5 rule 1 BadLine
 deal e cat dan cat| => line 5 rule 1 BadLine
-open coins coin coins 5| => line 5 rule 1 BadLine
-open coins coin d 5| => line 5 rule 1 BadLine
-open bank coin cat 5| => line 5 rule 1 BadLine
-open ann coin cat 5| => line 5 rule 1 BadLine
-open d coin cat 5| => line 5 rule 1 BadLine
-open bank coin cat 5|ledger bank| => line 5 rule 1 BadLine
-open coins coin cat 0| => line 5 rule 1 BadLine
-open coins coin ann 6| => line 5 rule 1 BadLine
-open coins coin cat 9223372036854775803| => line 5 rule 1 BadLine
-open coins coin cat 9223372036854775802|open coins coin dan 1| => line 6 rule 1 BadLine";
+open coins coin coins 5| => line 5 rule 2 NameTwice
+open coins coin d 5| => line 5 rule 2 NameTwice
+open bank coin cat 5| => line 5 rule 3 UnknownName
+open ann coin cat 5| => line 5 rule 3 UnknownName
+open d coin cat 5| => line 5 rule 3 UnknownName
+open bank coin cat 5|ledger bank| => line 5 rule 3 UnknownName
+open coins coin cat 0| => line 5 rule 7 BadOpening
+open coins coin ann 6| => line 5 rule 7 BadOpening
+open coins coin cat 9223372036854775803| => line 5 rule 7 BadOpening
+open coins coin cat 9223372036854775802|open coins coin dan 1| => line 6 rule 7 BadOpening";
 
 #[test]
 fn a_declaration_keeps_the_rules(rt: HostRuntime) -> Result<(), Fail> {
@@ -160,41 +160,41 @@ fn an_event_has_its_form(rt: HostRuntime) -> Result<(), Fail> {
     check_table(&rt, rt.alloc(), BEGUN, EVENT_FORMS)
 }
 
-const EVENT_NAMES: &str = "register bank d ann| => line 6 rule 1 BadLine
-register ann d ann| => line 6 rule 1 BadLine
-register coins e ann| => line 6 rule 1 BadLine
-register coins coins ann| => line 6 rule 1 BadLine
-register coins d cat| => line 6 rule 1 BadLine
-register coins d d| => line 6 rule 1 BadLine
-escrow bank d ann coin 5| => line 6 rule 1 BadLine
-escrow coins e ann coin 5| => line 6 rule 1 BadLine
-escrow coins d cat coin 5| => line 6 rule 1 BadLine
-transfer bank d ann 0 ben coin 5| => line 6 rule 1 BadLine
-transfer coins e ann 0 ben coin 5| => line 6 rule 1 BadLine
-transfer coins d cat 0 ben coin 5| => line 6 rule 1 BadLine
-transfer coins d ann 0 cat coin 5| => line 6 rule 1 BadLine
-start e ann| => line 6 rule 1 BadLine
-start d cat| => line 6 rule 1 BadLine
-commit e ann| => line 6 rule 1 BadLine
-commit d cat| => line 6 rule 1 BadLine
-abort e ann| => line 6 rule 1 BadLine
-abort d cat| => line 6 rule 1 BadLine
-claim bank d 0| => line 6 rule 1 BadLine
-claim coins e 0| => line 6 rule 1 BadLine";
+const EVENT_NAMES: &str = "register bank d ann| => line 6 rule 3 UnknownName
+register ann d ann| => line 6 rule 3 UnknownName
+register coins e ann| => line 6 rule 3 UnknownName
+register coins coins ann| => line 6 rule 3 UnknownName
+register coins d cat| => line 6 rule 3 UnknownName
+register coins d d| => line 6 rule 3 UnknownName
+escrow bank d ann coin 5| => line 6 rule 3 UnknownName
+escrow coins e ann coin 5| => line 6 rule 3 UnknownName
+escrow coins d cat coin 5| => line 6 rule 3 UnknownName
+transfer bank d ann 0 ben coin 5| => line 6 rule 3 UnknownName
+transfer coins e ann 0 ben coin 5| => line 6 rule 3 UnknownName
+transfer coins d cat 0 ben coin 5| => line 6 rule 3 UnknownName
+transfer coins d ann 0 cat coin 5| => line 6 rule 3 UnknownName
+start e ann| => line 6 rule 3 UnknownName
+start d cat| => line 6 rule 3 UnknownName
+commit e ann| => line 6 rule 3 UnknownName
+commit d cat| => line 6 rule 3 UnknownName
+abort e ann| => line 6 rule 3 UnknownName
+abort d cat| => line 6 rule 3 UnknownName
+claim bank d 0| => line 6 rule 3 UnknownName
+claim coins e 0| => line 6 rule 3 UnknownName";
 
 #[test]
 fn an_event_uses_declared_names(rt: HostRuntime) -> Result<(), Fail> {
     check_table(&rt, rt.alloc(), BEGUN, EVENT_NAMES)
 }
 
-const NUMBERS: &str = "claim coins d 1| => line 6 rule 1 BadLine
-claim coins d 4294967296| => line 6 rule 1 BadLine
-claim coins d 1234567890123456789012345678901234567890| => line 6 rule 1 BadLine
-start d ann|claim coins d 2| => line 7 rule 1 BadLine
-start d ann|start d ann|claim coins d 2| => line 8 rule 1 BadLine
-start d ann|claim coins d 1|claim coins d 2| => line 8 rule 1 BadLine
-transfer coins d ann 4294967296 ben coin 5| => line 6 rule 1 BadLine
-transfer coins d ann 1234567890123456789012345678901234567890 ben coin 5| => line 6 rule 1 BadLine";
+const NUMBERS: &str = "claim coins d 1| => line 6 rule 10 OutOfRange
+claim coins d 4294967296| => line 6 rule 10 OutOfRange
+claim coins d 1234567890123456789012345678901234567890| => line 6 rule 10 OutOfRange
+start d ann|claim coins d 2| => line 7 rule 10 OutOfRange
+start d ann|start d ann|claim coins d 2| => line 8 rule 10 OutOfRange
+start d ann|claim coins d 1|claim coins d 2| => line 8 rule 10 OutOfRange
+transfer coins d ann 4294967296 ben coin 5| => line 6 rule 10 OutOfRange
+transfer coins d ann 1234567890123456789012345678901234567890 ben coin 5| => line 6 rule 10 OutOfRange";
 
 #[test]
 fn a_number_keeps_its_range(rt: HostRuntime) -> Result<(), Fail> {
@@ -202,28 +202,28 @@ fn a_number_keeps_its_range(rt: HostRuntime) -> Result<(), Fail> {
 }
 
 const ORDERS: &str = "start d|start e ann| => line 6 rule 1 BadLine
-start e ann|start d| => line 6 rule 1 BadLine
-#||start e ann|start d| => line 8 rule 1 BadLine
-claim coins d 1|claim coins d 2| => line 6 rule 1 BadLine
+start e ann|start d| => line 6 rule 3 UnknownName
+#||start e ann|start d| => line 8 rule 3 UnknownName
+claim coins d 1|claim coins d 2| => line 6 rule 10 OutOfRange
 claim coins d 1|start d| => line 7 rule 1 BadLine
-claim coins d 1|start e ann| => line 7 rule 1 BadLine
+claim coins d 1|start e ann| => line 7 rule 3 UnknownName
 claim coins d 1||begin| => line 8 rule 1 BadLine
 claim coins d 1|ledger bank| => line 7 rule 1 BadLine
 claim coins d 1|start d ann => line 7 rule 1 BadLine
 claim coins d 1|# => line 7 rule 1 BadLine
-transfer coins d ann 4294967296 ben coin 5|abort d cat| => line 7 rule 1 BadLine
-transfer coins d ann 4294967296 ben coin 5|claim coins d 1| => line 6 rule 1 BadLine";
+transfer coins d ann 4294967296 ben coin 5|abort d cat| => line 7 rule 3 UnknownName
+transfer coins d ann 4294967296 ben coin 5|claim coins d 1| => line 6 rule 10 OutOfRange";
 
 #[test]
 fn the_reading_goes_before_what_happens(rt: HostRuntime) -> Result<(), Fail> {
     check_table(&rt, rt.alloc(), BEGUN, ORDERS)
 }
 
-const EARLIER: &str = "ledger coins|deal e cat cat|begin| => line 5 rule 1 BadLine
+const EARLIER: &str = "ledger coins|deal e cat cat|begin| => line 5 rule 2 NameTwice
 deal e cat cat|ledger coins|begin| => line 5 rule 1 BadLine
-ledger coins|begin|start e ann| => line 5 rule 1 BadLine
-ledger bank|begin|start e ann| => line 7 rule 1 BadLine
-ledger coins| => line 5 rule 1 BadLine";
+ledger coins|begin|start e ann| => line 5 rule 2 NameTwice
+ledger bank|begin|start e ann| => line 7 rule 3 UnknownName
+ledger coins| => line 5 rule 2 NameTwice";
 
 #[test]
 fn the_first_refused_line_is_named(rt: HostRuntime) -> Result<(), Fail> {

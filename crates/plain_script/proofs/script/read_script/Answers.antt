@@ -3,7 +3,7 @@ use Rattle.std.specs.Prelude.{IfNone}
 use Rattle.line_text.specs.Lines.{lines_of}
 use Rattle.line_text.specs.Seen.{line_of}
 use Rattle.plain_script.specs.Fronts.{rule_behind, front_after}
-use Rattle.plain_script.specs.declared.rule.ScriptRule.{ScriptRule}
+use Rattle.script_lines.specs.declared.rule.ScriptRule.{ScriptRule}
 use Rattle.plain_script.proofs.Fronting.{goes_on, number_small, few_events}
 use Rattle.plain_script.proofs.script.read_script.Goals as goal
 

@@ -9,8 +9,16 @@ pub enum ScriptRule {
     NameTwice,
     /// It uses a name that nothing of that kind has.
     UnknownName,
+    /// No deal has the text of a declared deal.
+    BadDeal,
+    /// Seats make no good set.
+    BadSet,
+    /// A set has more deviant seats than it tolerates.
+    TooManyDeviants,
     /// An opening row isn't good.
     BadOpening,
+    /// A node is needed, and it names none.
+    NotANode,
     /// A limit of scripts is passed.
     TooMany,
     /// A number exceeds what it counts, or its field.
@@ -23,7 +31,7 @@ pub enum ScriptRule {
 
 impl ScriptRule {
     ghost use Rattle.std.specs.Prelude.{◌≡◌};
-    ghost use Rattle.plain_script.specs.RuleNames.{rule_number, rule_name, answered};
+    ghost use Rattle.script_lines.specs.RuleNames.{rule_number, rule_name};
 
     /// The number, by which reports name the rule. It never changes.
     pub fn number(self) -> u16
@@ -33,7 +41,11 @@ impl ScriptRule {
             ScriptRule::BadLine => 1,
             ScriptRule::NameTwice => 2,
             ScriptRule::UnknownName => 3,
+            ScriptRule::BadDeal => 4,
+            ScriptRule::BadSet => 5,
+            ScriptRule::TooManyDeviants => 6,
             ScriptRule::BadOpening => 7,
+            ScriptRule::NotANode => 8,
             ScriptRule::TooMany => 9,
             ScriptRule::OutOfRange => 10,
             ScriptRule::TooLarge => 11,
@@ -49,28 +61,15 @@ impl ScriptRule {
             ScriptRule::BadLine => "BadLine",
             ScriptRule::NameTwice => "NameTwice",
             ScriptRule::UnknownName => "UnknownName",
+            ScriptRule::BadDeal => "BadDeal",
+            ScriptRule::BadSet => "BadSet",
+            ScriptRule::TooManyDeviants => "TooManyDeviants",
             ScriptRule::BadOpening => "BadOpening",
+            ScriptRule::NotANode => "NotANode",
             ScriptRule::TooMany => "TooMany",
             ScriptRule::OutOfRange => "OutOfRange",
             ScriptRule::TooLarge => "TooLarge",
             ScriptRule::NotBuilt => "NotBuilt",
-        }
-    }
-
-    /// The rule that this build answers for it: every rule that a line breaks is told as a bad
-    /// line, save that the line is of a form that isn't built.
-    pub fn answered(self) -> ScriptRule
-        ensures { result ≡ answered self }
-    {
-        match self {
-            ScriptRule::BadLine
-            | ScriptRule::NameTwice
-            | ScriptRule::UnknownName
-            | ScriptRule::BadOpening
-            | ScriptRule::TooMany
-            | ScriptRule::OutOfRange => ScriptRule::BadLine,
-            ScriptRule::TooLarge => ScriptRule::TooLarge,
-            ScriptRule::NotBuilt => ScriptRule::NotBuilt,
         }
     }
 }

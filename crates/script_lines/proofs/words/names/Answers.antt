@@ -1,6 +1,6 @@
 use Rattle.std.proofs.Common.{sym}
-use Rattle.plain_script.proofs.NameWords.{more_names, names_fail}
-use Rattle.plain_script.proofs.saying.names.Goals as goal
+use Rattle.script_lines.proofs.NameWords.{more_names, names_fail}
+use Rattle.script_lines.proofs.words.names.Goals as goal
 
 pub loop-words-smaller : goal.loop-words-smaller
 loop-words-smaller c = (more_names c.loop-words.names.items c.loop-words.words c.args.words c.in-Some.name c.name.new.self c.loop-words.invariant.whole c.loop-words.invariant.names c.in-Some.ensures).2

@@ -12,7 +12,7 @@ pub struct RefusedLine {
 
 impl fmt::Display for RefusedLine {
     ghost use Rattle.std.specs.Prelude.{Some};
-    ghost use Rattle.plain_script.specs.RuleNames.{refused_text};
+    ghost use Rattle.script_lines.specs.RuleNames.{refused_text};
 
     ghost output = { λ refused. Some (refused_text refused.line refused.rule) };
 

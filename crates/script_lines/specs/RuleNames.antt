@@ -1,14 +1,18 @@
 -- The rules by their numbers and names, and the text that tells a refused line.
 use Rattle.std.specs.Prelude.{ℕ, List, ◌∷◌, ◌++◌, codes}
 use Rattle.std.specs.Fmt.{decimal}
-use Rattle.plain_script.specs.declared.rule.ScriptRule.{ScriptRule}
-use Rattle.plain_script.specs.declared.rule.ScriptRule.TheVariants.{BadLine, NameTwice, UnknownName, BadOpening, TooMany, OutOfRange, TooLarge, NotBuilt}
+use Rattle.script_lines.specs.declared.rule.ScriptRule.{ScriptRule}
+use Rattle.script_lines.specs.declared.rule.ScriptRule.TheVariants.{BadLine, NameTwice, UnknownName, BadDeal, BadSet, TooManyDeviants, BadOpening, NotANode, TooMany, OutOfRange, TooLarge, NotBuilt}
 
 abbrev pub rule_number : ScriptRule → ℕ
 rule_number BadLine = 1
 rule_number NameTwice = 2
 rule_number UnknownName = 3
+rule_number BadDeal = 4
+rule_number BadSet = 5
+rule_number TooManyDeviants = 6
 rule_number BadOpening = 7
+rule_number NotANode = 8
 rule_number TooMany = 9
 rule_number OutOfRange = 10
 rule_number TooLarge = 11
@@ -18,23 +22,15 @@ abbrev pub rule_name : ScriptRule → List ℕ
 rule_name BadLine = codes "BadLine"
 rule_name NameTwice = codes "NameTwice"
 rule_name UnknownName = codes "UnknownName"
+rule_name BadDeal = codes "BadDeal"
+rule_name BadSet = codes "BadSet"
+rule_name TooManyDeviants = codes "TooManyDeviants"
 rule_name BadOpening = codes "BadOpening"
+rule_name NotANode = codes "NotANode"
 rule_name TooMany = codes "TooMany"
 rule_name OutOfRange = codes "OutOfRange"
 rule_name TooLarge = codes "TooLarge"
 rule_name NotBuilt = codes "NotBuilt"
-
--- the rule that this build answers: what a line may not do is a bad line, whichever rule of lines
--- it breaks
-abbrev pub answered : ScriptRule → ScriptRule
-answered BadLine = BadLine
-answered NameTwice = BadLine
-answered UnknownName = BadLine
-answered BadOpening = BadLine
-answered TooMany = BadLine
-answered OutOfRange = BadLine
-answered TooLarge = TooLarge
-answered NotBuilt = NotBuilt
 
 -- the line's number, the rule's number and the rule's name
 abbrev pub refused_text : ℕ → ScriptRule → List ℕ

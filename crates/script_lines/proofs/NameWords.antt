@@ -6,7 +6,7 @@ use Rattle.std.proofs.lemmas.List.Folds.{list_all-append}
 use Rattle.dh_base.specs.Names.{is_name}
 use Rattle.line_text.specs.Reading.{name_word, is_done}
 use Rattle.line_text.proofs.WordReading.{name_taken}
-use Rattle.plain_script.specs.Said.{names_only}
+use Rattle.script_lines.specs.WordLists.{names_only}
 
 pub no_name : (ws : List (List ℕ)) → name_word ws ≡ None → is_done ws ≡ false → list_all is_name ws ≡ false
 unfolding name_word

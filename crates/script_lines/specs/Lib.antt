@@ -1,0 +1,5 @@
+pub mod RuleNames
+pub mod LineRules
+pub mod Refusals
+pub mod Positions
+pub mod WordLists
