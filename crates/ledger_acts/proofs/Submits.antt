@@ -42,13 +42,13 @@ use Rattle.ledger_acts.proofs.MovesOnce.{always_told}
 
 -- ---- what is left, whatever is told
 
-pub left_by : (rows : ℕ) (tab : Option ℕ) (refusal : Tables → Option LedgerFault) (batches : Tables → List (List Change)) (IsAnswer : Tables → ℕ → Type 0) (result : Result ℕ LedgerFault) (before after : Known) →
-    rows ≤ 8 → ByRows rows tab refusal batches IsAnswer result before after → LeavesByRows tab result before after
-left_by rows tab refusal batches IsAnswer result before after few by = record {
+pub left_by : (looks : ℕ) (tab : Option ℕ) (refusal : Tables → Option LedgerFault) (batches : Tables → List (List Change)) (IsAnswer : Tables → ℕ → Type 0) (result : Result ℕ LedgerFault) (before after : Known) →
+    looks ≤ 8 → ByRows looks tab refusal batches IsAnswer result before after → LeavesByRows tab result before after
+left_by looks tab refusal batches IsAnswer result before after few by = record {
   batches = by.leaves.batches;
   leaves = by.leaves.leaves;
   cause = by.cause;
-  looked = more_looks rows 8 tab before after few by.looked;
+  looked = more_looks looks 8 tab before after few by.looked;
 }
 
 -- where the keeper isn't asked
