@@ -36,6 +36,11 @@ fn keys() -> KeySpec
     }
 }
 
+/// Ann's account.
+fn ann_of(alloc: Global) -> Result<Id, Fail> {
+    Ok(account_of(make_ring(alloc, &keys())?.as_slice()))
+}
+
 /// Ann is the house's only validator.
 fn genesis(alloc: Global, ann: &Id) -> Result<Set, Fail> {
     let mut text = Vec::from_slice(alloc, b"CCDSET01")?;
@@ -273,26 +278,58 @@ fn submit_at_last(
     Ok(keeper)
 }
 
-/// A keeper over which Ann has registered the deal, and has 4 coins under it.
-fn with_escrow(rt: &impl Abort, alloc: Global, ann: &Id, deal: Id) -> Result<FailingKeeper, Fail> {
+/// A keeper over which Ann has registered the deal.
+fn with_deal(rt: &impl Abort, alloc: Global, ann: &Id) -> Result<FailingKeeper, Fail> {
     let keeper = opened(alloc, FailingKeeper::new(alloc), ann)?.close();
-    let register = said(alloc, 0, &registration(alloc, *ann)?)?;
-    let keeper = submit_at_last(rt, alloc, keeper, ann, &register, 4, 1)?;
-    let escrow = said(alloc, 1, &escrow(deal)?)?;
-    submit_at_last(rt, alloc, keeper, ann, &escrow, 5, 2)
+    let env = said(alloc, 0, &registration(alloc, *ann)?)?;
+    submit_at_last(rt, alloc, keeper, ann, &env, 4, 1)
+}
+
+/// Ann puts 4 coins under the deal.
+fn with_escrow(
+    rt: &impl Abort,
+    alloc: Global,
+    keeper: FailingKeeper,
+    ann: &Id,
+    deal: Id,
+) -> Result<FailingKeeper, Fail> {
+    let env = said(alloc, 1, &escrow(deal)?)?;
+    submit_at_last(rt, alloc, keeper, ann, &env, 5, 2)
+}
+
+/// Ann hands 3 of them to Ben.
+fn with_transfer(
+    rt: &impl Abort,
+    alloc: Global,
+    keeper: FailingKeeper,
+    ann: &Id,
+    deal: Id,
+) -> Result<FailingKeeper, Fail> {
+    let env = said(alloc, 2, &transfer(deal)?)?;
+    submit_at_last(rt, alloc, keeper, ann, &env, 6, 3)
+}
+
+/// Ann pays Ben, and says it once more, which is answered by one row.
+fn with_payment(
+    rt: &impl Abort,
+    alloc: Global,
+    keeper: FailingKeeper,
+    ann: &Id,
+) -> Result<FailingKeeper, Fail> {
+    let house = set_id(&genesis(alloc, ann)?);
+    let env = said(alloc, 3, &payment(house)?)?;
+    let keeper = submit_at_last(rt, alloc, keeper, ann, &env, 4, 4)?;
+    submit_at_last(rt, alloc, keeper, ann, &env, 1, 4)
 }
 
 #[test]
 fn each_call_of_the_acts_fails(rt: HostRuntime) -> Result<(), Fail> {
     let alloc = rt.alloc();
-    let ann = account_of(make_ring(alloc, &keys())?.as_slice());
+    let ann = ann_of(alloc)?;
     let deal = digest(deal_text(alloc, ann)?.as_bytes());
-    let keeper = with_escrow(&rt, alloc, &ann, deal)?;
-    let transfer = said(alloc, 2, &transfer(deal)?)?;
-    let keeper = submit_at_last(&rt, alloc, keeper, &ann, &transfer, 6, 3)?;
-    let pay = said(alloc, 3, &payment(set_id(&genesis(alloc, &ann)?))?)?;
-    let keeper = submit_at_last(&rt, alloc, keeper, &ann, &pay, 4, 4)?;
-    // A repeated act is answered by one row.
-    submit_at_last(&rt, alloc, keeper, &ann, &pay, 1, 4)?;
+    let keeper = with_deal(&rt, alloc, &ann)?;
+    let keeper = with_escrow(&rt, alloc, keeper, &ann, deal)?;
+    let keeper = with_transfer(&rt, alloc, keeper, &ann, deal)?;
+    with_payment(&rt, alloc, keeper, &ann)?;
     Ok(())
 }
