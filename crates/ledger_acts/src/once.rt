@@ -1,7 +1,8 @@
 //! Acts under their keys: each acts once, and is answered by what is kept from then on.
 
 ghost use Rattle.std.specs.Prelude.{◌≡◌, Some};
-ghost use Rattle.std.specs.Result.{result_err};
+ghost use Rattle.std.specs.Result.{IsErr, result_err};
+ghost use Rattle.keeper_core.specs.Knowing.{FailsNext};
 ghost use Rattle.ledger_rows.specs.Entries.{digest_of};
 ghost use Rattle.ledger_acts.specs.LedgerStep.{wrong_ledger, kept_reply};
 ghost use Rattle.ledger_acts.specs.Movements.{movement_of, head_refusal, MovesByRows, MovesOnceByRows};
@@ -137,9 +138,10 @@ fn move_once_by_rows<K: Keeper>(
     act: &Act,
     movement: &Movement,
 ) -> Result<u64, LedgerFault>
-    ensures { MovesOnceByRows ledger.now place.now signed.now.account signed.now.q
+    ensures rows { MovesOnceByRows ledger.now place.now signed.now.account signed.now.q
         signed.now.message.now act.now movement.now result
         (K.known keeper.old) (K.known keeper.new) }
+    ensures fails { FailsNext (K.known keeper.old) → IsErr result }
 {
     match read_used(alloc, keeper, &signed.account, signed.q)? {
         Some(used) => kept_reply(&used, signed.message),
@@ -167,6 +169,7 @@ pub(crate) fn move_once<K: Keeper>(
     ensures step { movement_of signed.now.account act.now ≡ Some movement.now →
         ActsByStep ledger.now place.now signed.now.account signed.now.q signed.now.message.now
         act.now result (K.known keeper.old) (K.known keeper.new) }
+    ensures fails { FailsNext (K.known keeper.old) → IsErr result }
 {
     move_once_by_rows(alloc, keeper, ledger, place, signed, act, movement)
 }
@@ -180,8 +183,9 @@ fn register_once_by_rows<K: Keeper>(
     signed: &Signed<'_>,
     text: &[u8],
 ) -> Result<u64, LedgerFault>
-    ensures { RegistersOnceByRows ledger.now place.now signed.now.account signed.now.q
+    ensures rows { RegistersOnceByRows ledger.now place.now signed.now.account signed.now.q
         signed.now.message.now text.now result (K.known keeper.old) (K.known keeper.new) }
+    ensures fails { FailsNext (K.known keeper.old) → IsErr result }
 {
     match read_used(alloc, keeper, &signed.account, signed.q)? {
         Some(used) => kept_reply(&used, signed.message),
@@ -206,6 +210,7 @@ pub(crate) fn register_once<K: Keeper>(
     ensures step { ActsByStep ledger.now place.now signed.now.account signed.now.q
         signed.now.message.now (Act.Register text.now) result
         (K.known keeper.old) (K.known keeper.new) }
+    ensures fails { FailsNext (K.known keeper.old) → IsErr result }
 {
     register_once_by_rows(alloc, keeper, ledger, place, signed, text)
 }

@@ -1,8 +1,10 @@
 //! Acts as a whole, by their envelopes.
 
 ghost use Rattle.std.specs.Prelude.{◌≡◌, ◌<◌, ◌^◌, length, None, IsSome, Ok};
+ghost use Rattle.std.specs.Result.{IsErr};
 ghost use Rattle.act_text.specs.ActTexts.{office_of, kind_of};
 ghost use Rattle.act_text.specs.declared.office.Office.TheVariants.{Ledger};
+ghost use Rattle.keeper_core.specs.Knowing.{FailsNext};
 ghost use Rattle.key_ring.specs.Saying.{Says};
 ghost use Rattle.ledger_acts.specs.Movements.{movement_of};
 ghost use Rattle.ledger_acts.specs.Steps.{through, LeavesByRows, ActsByStep, SubmitsByRows, SubmitsByStep};
@@ -30,6 +32,7 @@ fn submit_movement<K: Keeper>(
     ensures rows { LeavesByRows None result (K.known keeper.old) (K.known keeper.new) }
     ensures step { ActsByStep ledger.now place.now signed.now.account signed.now.q
         signed.now.message.now act.now result (K.known keeper.old) (K.known keeper.new) }
+    ensures fails { FailsNext (K.known keeper.old) → IsErr result }
 {
     match movement_of(&signed.account, act) {
         Some(movement) => move_once(alloc, keeper, ledger, place, signed, act, &movement),
@@ -51,6 +54,7 @@ fn submit_act<K: Keeper>(
         (K.known keeper.old) (K.known keeper.new) }
     ensures step { ActsByStep ledger.now place.now signed.now.account signed.now.q
         signed.now.message.now act.now result (K.known keeper.old) (K.known keeper.new) }
+    ensures fails { FailsNext (K.known keeper.old) → IsErr result }
 {
     match act {
         Act::Register { text } => {
@@ -74,6 +78,7 @@ fn submit_said<K: Keeper>(
     ensures rows { SubmitsByRows env.now result (K.known keeper.old) (K.known keeper.new) }
     ensures step { SubmitsByStep ledger.now place.now env.now result
         (K.known keeper.old) (K.known keeper.new) }
+    ensures fails { FailsNext (K.known keeper.old) → IsErr result }
 {
     let signed = Signed {
         account: said.account,
@@ -97,6 +102,7 @@ pub fn submit<K: Keeper>(
     ensures rows { SubmitsByRows env.now result (K.known keeper.old) (K.known keeper.new) }
     ensures step { SubmitsByStep ledger.now place.now env.now result
         (K.known keeper.old) (K.known keeper.new) }
+    ensures fails { FailsNext (K.known keeper.old) → IsErr result }
 {
     match check(env) {
         Ok(said) => submit_said(alloc, keeper, ledger, place, env, &said),

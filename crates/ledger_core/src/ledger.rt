@@ -1,7 +1,7 @@
 //! Ledgers.
 
 ghost use Rattle.std.specs.Prelude.{◌≡◌, ◌<◌, ◌≤◌, ◌+◌, ◌-◌, ◌^◌, length, [], None, IfErr, IfOk, OnErr, Some};
-ghost use Rattle.std.specs.Result.{IsErrOf};
+ghost use Rattle.std.specs.Result.{IsErr, IsErrOf};
 ghost use Rattle.escrow_book.specs.History.{free_of, settlement_of};
 ghost use Rattle.keeper_core.specs.Knowing.{FailsNext, LooksAtMost};
 ghost use Rattle.keeper_core.specs.Leaving.{Leaves, ended, of_store_fault};
@@ -78,6 +78,8 @@ impl<K: Keeper> Ledger<K> {
             refused.fault) }
         ensures named { IfOk result (λ ledger. (ledger.name ≡ opening.now.name)
             × (ledger.house ≡ id_of_set opening.now.genesis)) }
+        // A keeper that has stopped, or is to fail next, opens no ledger.
+        ensures fails { FailsNext (K.known keeper) → IsErr result }
     {
         let mut keeper = keeper;
         match open_over(alloc, &mut keeper, opening) {
@@ -144,6 +146,7 @@ impl<K: Keeper> Ledger<K> {
             (K.known self.old.keeper) (K.known self.new.keeper) }
         ensures named { (self.new.name ≡ self.old.name) × (self.new.house ≡ self.old.house) }
         ensures rest { OnErr result (self.new ≡ record self.old { keeper = self.new.keeper }) }
+        ensures fails { FailsNext (K.known self.old.keeper) → IsErr result }
     {
         let ledger = LedgerId {
             name: self.name,

@@ -2,6 +2,8 @@
 
 ghost use Rattle.std.specs.Prelude.{◌≡◌, ◌+◌, ◌<◌, ◌++◌, [], ◌∷◌, is_some, Some, None, IfOk, IfErr, OnOk, length};
 ghost use Rattle.std.specs.FinMap.{get};
+ghost use Rattle.std.specs.Result.{IsErr};
+ghost use Rattle.keeper_core.specs.Knowing.{FailsNext};
 ghost use Rattle.keeper_core.specs.Leaving.{Leaves, ended, of_store_fault};
 ghost use Rattle.keeper_core.specs.StoreFaults.{HasCause};
 ghost use Rattle.ledger_rows.specs.Asking.{Asks};
@@ -152,6 +154,7 @@ fn open_good<K: Keeper>(
     ensures rows { OpensGood identity.now rows.now result
         (K.known keeper.old) (K.known keeper.new) }
     ensures cause { IfErr result (OpenCause (K.known keeper.new).tables) }
+    ensures fails { FailsNext (K.known keeper.old) → IsErr result }
 {
     let kept: Option<FormRow> = read_row(alloc, keeper, FORM_TAB, FORM_KEY)?;
     match kept {
@@ -169,6 +172,7 @@ pub(crate) fn open_by_rows<K: Keeper>(
     ensures rows { OpensByRows (opened_by opening.now) result
         (K.known keeper.old) (K.known keeper.new) }
     ensures cause { IfErr result (OpenCause (K.known keeper.new).tables) }
+    ensures fails { FailsNext (K.known keeper.old) → IsErr result }
 {
     let rows = book_rows(alloc, opening.rows.as_slice())?;
     if let Some(row) = first_bad_row(&rows) {
@@ -205,6 +209,7 @@ pub(crate) fn open_over<K: Keeper>(
     ensures empty { OpensEmpty (opened_by opening.now) result
         (K.known keeper.old) (K.known keeper.new) }
     ensures cause { IfErr result (OpenCause (K.known keeper.new).tables) }
+    ensures fails { FailsNext (K.known keeper.old) → IsErr result }
 {
     all_spelled(opening.rows.as_slice());
     open_by_rows(alloc, keeper, opening)

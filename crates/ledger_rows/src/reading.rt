@@ -1,6 +1,8 @@
 //! Reading the rows of a ledger's tables.
 
 ghost use Rattle.std.specs.Prelude.{◌≡◌};
+ghost use Rattle.std.specs.Result.{IsErr};
+ghost use Rattle.keeper_core.specs.Knowing.{FailsNext};
 ghost use Rattle.ledger_rows.specs.RowReading.{Reads, LacksForm, amount_said, free_said, free_refusal, deal_said, deal_refusal, amounts_said, hold_said, hold_refusal, count_said, moves_said, moves_refusal, used_said, used_refusal};
 
 use crate::free_amount::FreeAmount;
@@ -111,8 +113,9 @@ pub fn read_used<K: Keeper>(
     account: &Id,
     q: u32,
 ) -> Result<Option<UsedKey>, StoreFault>
-    ensures { Reads 1 (used_said account.now q) (used_refusal account.now q) LacksForm result
+    ensures reads { Reads 1 (used_said account.now q) (used_refusal account.now q) LacksForm result
         (K.known keeper.old) (K.known keeper.new) }
+    ensures fails { FailsNext (K.known keeper.old) → IsErr result }
 {
     let key = used_key(alloc, account, q)?;
     read_row(alloc, keeper, USED_TAB, &key)

@@ -1,7 +1,9 @@
 //! A ledger over a database.
 
 ghost use Rattle.std.specs.Prelude.{◌≡◌, ◌<◌, ◌^◌, length, IfErr, IfOk, OnErr};
+ghost use Rattle.std.specs.Result.{IsErr};
 ghost use Rattle.cert_core.specs.Sets.{id_of_set};
+ghost use Rattle.keeper_core.specs.Knowing.{FailsNext};
 ghost use Rattle.ledger_acts.specs.Steps.{SubmitsByRows};
 ghost use Rattle.ledger_core.specs.Openings.{opened_by};
 ghost use Rattle.ledger_core.specs.Opens.{OpensByRows, OpensKept, OpensEmpty, OpenCause, counts_of, kept_by};
@@ -31,6 +33,7 @@ pub fn open<S: Alter>(
         refused.fault) }
     ensures named { IfOk result (λ ledger. (ledger.name ≡ opening.now.name)
         × (ledger.house ≡ id_of_set opening.now.genesis)) }
+    ensures fails { FailsNext (known_of keeper) → IsErr result }
 {
     Ledger::open(alloc, keeper, opening)
 }
@@ -46,6 +49,7 @@ pub fn submit<S: Alter>(
     ensures rows { SubmitsByRows env.now (number_in result)
         (known_of ledger.old.keeper) (known_of ledger.new.keeper) }
     ensures rest { OnErr result (ledger.new ≡ record ledger.old { keeper = ledger.new.keeper }) }
+    ensures fails { FailsNext (known_of ledger.old.keeper) → IsErr result }
 {
     ledger.submit(env)
 }

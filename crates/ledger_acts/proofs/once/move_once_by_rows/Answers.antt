@@ -10,8 +10,8 @@ use Rattle.ledger_acts.specs.Movements.{movement_looks, head_refusal, headed, mo
 use Rattle.ledger_acts.proofs.Onces.{key_unread, key_kept, new_refused, new_done}
 use Rattle.ledger_acts.proofs.once.move_once_by_rows.Goals as goal
 
-pub returns-in_err-used : goal.returns-in_err-used
-returns-in_err-used g c =
+pub returns-in_err-used-clause-rows : goal.returns-in_err-used-clause-rows
+returns-in_err-used-clause-rows g c =
     let movement = c.args.movement.now in
     let place = c.args.place.now in
     let ledger = c.args.ledger.now in
@@ -22,13 +22,13 @@ returns-in_err-used g c =
     let before = g.K.Keeper.known c.args.keeper.now in
     let after = g.K.Keeper.known c.read_used.new.keeper in
     let fault = c.in_err-used.field-0.0 in
-    let read = rw c.in_err-used.was at c.read_used.ensures in
+    let read = rw c.in_err-used.was at c.read_used.ensures.reads in
     let is : c.from_residual.result ≡ Err (Store fault) = search rules in
     subst (λ (r : Result ℕ LedgerFault). MovesOnceByRows ledger place account q message asked movement r before after) (sym is)
     (key_unread (movement_looks movement) None account q (digest_of message) place.number (headed (head_refusal ledger asked) (act_refusal (moving movement place.acts (act_changes place.number account q message)))) (act_batches (moving movement place.acts (act_changes place.number account q message))) fault before after read)
 
-pub returns-in_err-take_movement-in-None : goal.returns-in_err-take_movement-in-None
-returns-in_err-take_movement-in-None g c =
+pub returns-in_err-take_movement-in-None-clause-rows : goal.returns-in_err-take_movement-in-None-clause-rows
+returns-in_err-take_movement-in-None-clause-rows g c =
     let movement = c.args.movement.now in
     let place = c.args.place.now in
     let ledger = c.args.ledger.now in
@@ -40,7 +40,7 @@ returns-in_err-take_movement-in-None g c =
     let mid = g.K.Keeper.known c.read_used.new.keeper in
     let after = g.K.Keeper.known c.take_movement.new.keeper in
     let fault = c.in_err-take_movement-in-None.field-0.0 in
-    let read = rw c.in_ok-used.was at c.read_used.ensures in
+    let read = rw c.in_ok-used.was at c.read_used.ensures.reads in
     let unused : Reads 1 (used_said account q) (used_refusal account q) LacksForm (Ok None) before mid =
     subst (λ (o : Option UsedKey). Reads 1 (used_said account q) (used_refusal account q) LacksForm (Ok o) before mid) c.in-None.is read in
     let paid = rw c.in_err-take_movement-in-None.was at c.take_movement.ensures in
@@ -48,8 +48,8 @@ returns-in_err-take_movement-in-None g c =
     subst (λ (r : Result ℕ LedgerFault). MovesOnceByRows ledger place account q message asked movement r before after) (sym is)
     (new_refused (movement_looks movement) None account q (digest_of message) place.number (headed (head_refusal ledger asked) (act_refusal (moving movement place.acts (act_changes place.number account q message)))) (act_batches (moving movement place.acts (act_changes place.number account q message))) before mid after unused fault paid)
 
-pub returns-in_ok-take_movement-in-None : goal.returns-in_ok-take_movement-in-None
-returns-in_ok-take_movement-in-None g c =
+pub returns-in_ok-take_movement-in-None-clause-rows : goal.returns-in_ok-take_movement-in-None-clause-rows
+returns-in_ok-take_movement-in-None-clause-rows g c =
     let movement = c.args.movement.now in
     let place = c.args.place.now in
     let ledger = c.args.ledger.now in
@@ -60,14 +60,14 @@ returns-in_ok-take_movement-in-None g c =
     let before = g.K.Keeper.known c.args.keeper.now in
     let mid = g.K.Keeper.known c.read_used.new.keeper in
     let after = g.K.Keeper.known c.take_movement.new.keeper in
-    let read = rw c.in_ok-used.was at c.read_used.ensures in
+    let read = rw c.in_ok-used.was at c.read_used.ensures.reads in
     let unused : Reads 1 (used_said account q) (used_refusal account q) LacksForm (Ok None) before mid =
     subst (λ (o : Option UsedKey). Reads 1 (used_said account q) (used_refusal account q) LacksForm (Ok o) before mid) c.in-None.is read in
     let paid = rw c.in_ok-take_movement-in-None.was at c.take_movement.ensures in
     new_done (movement_looks movement) None account q (digest_of message) place.number (headed (head_refusal ledger asked) (act_refusal (moving movement place.acts (act_changes place.number account q message)))) (act_batches (moving movement place.acts (act_changes place.number account q message))) before mid after unused c.in_ok-take_movement-in-None.field-0 paid
 
-pub returns-in-Some : goal.returns-in-Some
-returns-in-Some g c =
+pub returns-in-Some-clause-rows : goal.returns-in-Some-clause-rows
+returns-in-Some-clause-rows g c =
     let movement = c.args.movement.now in
     let place = c.args.place.now in
     let ledger = c.args.ledger.now in
@@ -78,7 +78,7 @@ returns-in-Some g c =
     let before = g.K.Keeper.known c.args.keeper.now in
     let after = g.K.Keeper.known c.read_used.new.keeper in
     let used = c.in-Some.used in
-    let read = rw c.in_ok-used.was at c.read_used.ensures in
+    let read = rw c.in_ok-used.was at c.read_used.ensures.reads in
     let there : Reads 1 (used_said account q) (used_refusal account q) LacksForm (Ok (Some used)) before after =
     subst (λ (o : Option UsedKey). Reads 1 (used_said account q) (used_refusal account q) LacksForm (Ok o) before after) c.in-Some.is read in
     subst (λ (r : Result ℕ LedgerFault). MovesOnceByRows ledger place account q message asked movement r before after) (sym c.kept_reply.ensures)

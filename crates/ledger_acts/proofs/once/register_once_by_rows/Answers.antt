@@ -19,8 +19,8 @@ use Rattle.ledger_acts.proofs.once.register_once_by_rows.Goals as goal
 abbrev unread : Result DealTold DealFault
 unread = Err deal.NoMemory
 
-pub returns-in_err-used : goal.returns-in_err-used
-returns-in_err-used g c =
+pub returns-in_err-used-clause-rows : goal.returns-in_err-used-clause-rows
+returns-in_err-used-clause-rows g c =
     let place = c.args.place.now in
     let ledger = c.args.ledger.now in
     let account = c.args.signed.now.account in
@@ -31,13 +31,13 @@ returns-in_err-used g c =
     let before = g.K.Keeper.known c.args.keeper.now in
     let after = g.K.Keeper.known c.read_used.new.keeper in
     let fault = c.in_err-used.field-0.0 in
-    let read = rw c.in_err-used.was at c.read_used.ensures in
+    let read = rw c.in_err-used.was at c.read_used.ensures.reads in
     let is : c.from_residual.result ≡ Err (Store fault) = search rules in
     subst (λ (r : Result ℕ LedgerFault). RegistersOnceByRows ledger place account q message text r before after) (sym is)
     (unread, tt, key_unread 2 (Some deal_tab) account q (digest_of message) place.number (registration_refusal (text_refusal ledger.house account unread) by_rows) (act_batches by_rows) fault before after read)
 
-pub returns-in_err-register-in-None : goal.returns-in_err-register-in-None
-returns-in_err-register-in-None g c =
+pub returns-in_err-register-in-None-clause-rows : goal.returns-in_err-register-in-None-clause-rows
+returns-in_err-register-in-None-clause-rows g c =
     let place = c.args.place.now in
     let ledger = c.args.ledger.now in
     let account = c.args.signed.now.account in
@@ -49,7 +49,7 @@ returns-in_err-register-in-None g c =
     let mid = g.K.Keeper.known c.read_used.new.keeper in
     let after = g.K.Keeper.known c.register.new.keeper in
     let fault = c.in_err-register-in-None.field-0.0 in
-    let read = rw c.in_ok-used.was at c.read_used.ensures in
+    let read = rw c.in_ok-used.was at c.read_used.ensures.reads in
     let unused : Reads 1 (used_said account q) (used_refusal account q) LacksForm (Ok None) before mid =
     subst (λ (o : Option UsedKey). Reads 1 (used_said account q) (used_refusal account q) LacksForm (Ok o) before mid) c.in-None.is read in
     let paid = rw c.in_err-register-in-None.was at c.register.ensures.rows in
@@ -57,8 +57,8 @@ returns-in_err-register-in-None g c =
     subst (λ (r : Result ℕ LedgerFault). RegistersOnceByRows ledger place account q message text r before after) (sym is)
     (paid.0, paid.1, new_refused 2 (Some deal_tab) account q (digest_of message) place.number (registration_refusal (text_refusal ledger.house account paid.0) by_rows) (act_batches by_rows) before mid after unused fault paid.2)
 
-pub returns-in_ok-register-in-None : goal.returns-in_ok-register-in-None
-returns-in_ok-register-in-None g c =
+pub returns-in_ok-register-in-None-clause-rows : goal.returns-in_ok-register-in-None-clause-rows
+returns-in_ok-register-in-None-clause-rows g c =
     let place = c.args.place.now in
     let ledger = c.args.ledger.now in
     let account = c.args.signed.now.account in
@@ -69,14 +69,14 @@ returns-in_ok-register-in-None g c =
     let before = g.K.Keeper.known c.args.keeper.now in
     let mid = g.K.Keeper.known c.read_used.new.keeper in
     let after = g.K.Keeper.known c.register.new.keeper in
-    let read = rw c.in_ok-used.was at c.read_used.ensures in
+    let read = rw c.in_ok-used.was at c.read_used.ensures.reads in
     let unused : Reads 1 (used_said account q) (used_refusal account q) LacksForm (Ok None) before mid =
     subst (λ (o : Option UsedKey). Reads 1 (used_said account q) (used_refusal account q) LacksForm (Ok o) before mid) c.in-None.is read in
     let paid = rw c.in_ok-register-in-None.was at c.register.ensures.rows in
     (paid.0, paid.1, new_done 2 (Some deal_tab) account q (digest_of message) place.number (registration_refusal (text_refusal ledger.house account paid.0) by_rows) (act_batches by_rows) before mid after unused c.in_ok-register-in-None.field-0 paid.2)
 
-pub returns-in-Some : goal.returns-in-Some
-returns-in-Some g c =
+pub returns-in-Some-clause-rows : goal.returns-in-Some-clause-rows
+returns-in-Some-clause-rows g c =
     let place = c.args.place.now in
     let ledger = c.args.ledger.now in
     let account = c.args.signed.now.account in
@@ -87,7 +87,7 @@ returns-in-Some g c =
     let before = g.K.Keeper.known c.args.keeper.now in
     let after = g.K.Keeper.known c.read_used.new.keeper in
     let used = c.in-Some.used in
-    let read = rw c.in_ok-used.was at c.read_used.ensures in
+    let read = rw c.in_ok-used.was at c.read_used.ensures.reads in
     let there : Reads 1 (used_said account q) (used_refusal account q) LacksForm (Ok (Some used)) before after =
     subst (λ (o : Option UsedKey). Reads 1 (used_said account q) (used_refusal account q) LacksForm (Ok o) before after) c.in-Some.is read in
     subst (λ (r : Result ℕ LedgerFault). RegistersOnceByRows ledger place account q message text r before after) (sym c.kept_reply.ensures)
