@@ -21,6 +21,3 @@ pub use office::Office;
 pub use reading::read_act;
 pub use statement::{HeldRow, Statement};
 pub use writing::{write_act, write_statement};
-
-#[cfg(test)]
-mod tests;

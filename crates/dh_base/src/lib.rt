@@ -50,6 +50,3 @@ pub use sink::Sink;
 pub use source::Source;
 pub use standard::{ReaderSource, WriterSink};
 pub use take::{take_id, take_name, take_u8, take_u16, take_u32, take_u64};
-
-#[cfg(test)]
-mod tests;

@@ -19,6 +19,3 @@ pub mod signed;
 
 pub use agent_fault::AgentFault;
 pub use joined_deal::JoinedDeal;
-
-#[cfg(test)]
-mod tests;

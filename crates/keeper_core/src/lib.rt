@@ -38,6 +38,3 @@ pub use mem_store::MemStore;
 pub use row::Row;
 pub use store::Store;
 pub use store_fault::StoreFault;
-
-#[cfg(test)]
-mod tests;

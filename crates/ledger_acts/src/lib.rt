@@ -13,13 +13,13 @@
 pub mod laws;
 pub mod ledger_fault;
 pub mod ledger_id;
-mod movement;
+pub mod movement;
 mod moving;
-mod once;
+pub mod once;
 mod part_rows;
 pub mod place;
-mod registering;
-mod signed;
+pub mod registering;
+pub mod signed;
 pub mod submitting;
 
 pub use ledger_fault::LedgerFault;
@@ -28,10 +28,3 @@ pub use movement::Movement;
 pub use place::Place;
 pub use signed::Signed;
 pub use submitting::submit;
-
-#[cfg(test)]
-mod once_tests;
-#[cfg(test)]
-mod registering_tests;
-#[cfg(test)]
-mod submitting_tests;

@@ -34,7 +34,7 @@ pub(crate) fn kept_reply(used: &UsedKey, message: &[u8]) -> Result<u64, LedgerFa
 }
 
 /// What an act of an account moves.
-pub(crate) fn movement_of(account: &Id, act: &Act) -> Option<Movement>
+pub fn movement_of(account: &Id, act: &Act) -> Option<Movement>
     ensures { result ≡ movement_of account.now act.now }
 {
     match act {
@@ -154,7 +154,7 @@ fn move_once_by_rows<K: Keeper>(
 
 /// Makes a movement once, on a ledger whose next entry stands at that place: a key that has signed
 /// an accepted act is answered by what is kept.
-pub(crate) fn move_once<K: Keeper>(
+pub fn move_once<K: Keeper>(
     alloc: Global,
     keeper: &mut K,
     ledger: &LedgerId,
@@ -197,7 +197,7 @@ fn register_once_by_rows<K: Keeper>(
 }
 
 /// Registers the deal of a text once, as `move_once` makes a movement.
-pub(crate) fn register_once<K: Keeper>(
+pub fn register_once<K: Keeper>(
     alloc: Global,
     keeper: &mut K,
     ledger: &LedgerId,

@@ -148,7 +148,7 @@ fn register_by_rows<K: Keeper>(
 }
 
 /// Registers the deal of a text on a ledger of that house, whose next entry stands at that place.
-pub(crate) fn register<K: Keeper>(
+pub fn register<K: Keeper>(
     alloc: Global,
     keeper: &mut K,
     place: &Place,

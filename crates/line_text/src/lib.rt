@@ -24,6 +24,3 @@ pub use lines::Lines;
 pub use number::Number;
 pub use text_line::{TextLine, is_passed_over};
 pub use words::Words;
-
-#[cfg(test)]
-mod tests;

@@ -30,6 +30,3 @@ pub use row_values::form_in;
 pub use rows::{SeatRows, read_rows};
 pub use seat_texts::{has_handed, text_of_handover, text_of_prefix};
 pub use state::SeatState;
-
-#[cfg(test)]
-mod tests;

@@ -7,6 +7,3 @@
 pub mod signing;
 
 pub use signing::{load, sign};
-
-#[cfg(test)]
-mod tests;

@@ -3,7 +3,7 @@
 ghost use Rattle.std.specs.Prelude.{◌≡◌, length, IfOk};
 ghost use Rattle.act_text.specs.ActTexts.{TextFits};
 
-use super::*;
+use act_text::*;
 use dh_base::{Id, List, Name, NoMemory, Outcome, digest};
 use std::alloc::Global;
 use std::process::Abort;

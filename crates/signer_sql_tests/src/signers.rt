@@ -2,12 +2,12 @@
 
 ghost use Rattle.std.specs.Prelude.{◌≡◌, ◌≤◌, length};
 
-use super::make_folder;
-use crate::{load, sign};
+use crate::folders::make_folder;
 use keeper_core::Store;
 use keeper_sql::{SqlKeeper, SqlStore};
 use key_ring::{Envelope, KeySpec, SignFault};
 use ots_core::write_sig;
+use signer_sql::{load, sign};
 use std::alloc::Global;
 use std::fs;
 use std::test::Fail;

@@ -1,7 +1,7 @@
 use Rattle.std.proofs.Common.{[], ◌∷◌}
 use Rattle.keeper_core.specs.Leaving.{Ended, of_keep_fault, Leaves}
 use Rattle.keeper_core.proofs.Leaving.{then_commit, then_read, ends_by, refusal}
-use Rattle.keeper_core.proofs.tests.callers.commit_both.Goals as goal
+use Rattle.keeper_core_tests.proofs.callers.commit_both.Goals as goal
 
 pub returns-in_err-commit-2-clause-leaves : goal.returns-in_err-commit-2-clause-leaves
 returns-in_err-commit-2-clause-leaves g c =

@@ -1,7 +1,7 @@
 //! The adapters over readers and writers, where a call fails and where one takes less than it is
 //! given.
 
-use crate::{Failed, ReaderSource, Sink, Source, WriterSink};
+use dh_base::{Failed, ReaderSource, Sink, Source, WriterSink};
 use std::io;
 
 /// A reader that gives one byte at a call, and fails the call with one number, from 0.

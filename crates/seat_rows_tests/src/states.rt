@@ -2,11 +2,11 @@
 
 mod loads;
 
-use super::*;
 use cert_core::{Set, read_set};
 use deal_log::Posting;
 use dh_base::{Id, Outcome, digest};
 use keeper_core::Change;
+use seat_rows::*;
 use std::alloc::Global;
 use std::process::Abort;
 use std::test::Fail;

@@ -3,14 +3,14 @@
 ghost use Rattle.std.specs.Prelude.{◌≡◌, ◌<◌, IfOk};
 ghost use Rattle.act_text.specs.ActTexts.{TextFits};
 
-use crate::ledger_fault::LedgerFault;
-use crate::ledger_id::LedgerId;
-use crate::place::Place;
-use crate::submitting::submit;
 use act_text::{Act, ActFault, write_act};
 use dh_base::{Id, Name, digest};
 use keeper_core::{Arm, Batch, Keeper, MemKeeper, StoreFault};
 use key_ring::{EnvFault, KeySpec, account_of, make_envelope, make_ring};
+use ledger_acts::ledger_fault::LedgerFault;
+use ledger_acts::ledger_id::LedgerId;
+use ledger_acts::place::Place;
+use ledger_acts::submitting::submit;
 use ledger_rows::{put_free, read_free};
 use std::alloc::Global;
 use std::process::Abort;

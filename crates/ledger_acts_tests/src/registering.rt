@@ -1,12 +1,12 @@
 //! Registrations over a keeper in memory.
 
-use crate::ledger_fault::LedgerFault;
-use crate::place::Place;
-use crate::registering::register;
-use crate::signed::Signed;
 use deal_core::DealFault;
 use dh_base::{Id, digest};
 use keeper_core::{Arm, Batch, Keeper, MemKeeper, StoreFault};
+use ledger_acts::ledger_fault::LedgerFault;
+use ledger_acts::place::Place;
+use ledger_acts::registering::register;
+use ledger_acts::signed::Signed;
 use ledger_rows::{DEAL_TAB, count_open, read_registration};
 use std::alloc::Global;
 use std::process::Abort;

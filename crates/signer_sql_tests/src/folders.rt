@@ -1,13 +1,10 @@
 //! A signer over files, and files that another process writes; each test has a folder of its own.
 
-mod killed;
-mod signers;
-
 use std::fs;
 use std::test::Fail;
 
 /// Makes an empty folder.
-fn make_folder(rt: &HostRuntime, folder: &str) -> Result<(), Fail> {
+pub fn make_folder(rt: &HostRuntime, folder: &str) -> Result<(), Fail> {
     let _ = fs::remove_dir_all(rt, folder);
     fs::create_dir(rt, folder)?;
     Ok(())

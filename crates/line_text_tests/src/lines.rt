@@ -1,5 +1,5 @@
-use crate::text_line::is_passed_over;
-use crate::{Lines, Number, TextLine, Words};
+use line_text::text_line::is_passed_over;
+use line_text::{Lines, Number, TextLine, Words};
 
 fn line(text: &[u8], ended: bool) -> TextLine<'_> {
     TextLine { text, ended }

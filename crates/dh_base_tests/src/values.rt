@@ -1,10 +1,8 @@
-use super::*;
-use crate::refusal::{called, entry, write_refusal};
+use dh_base::refusal::{called, entry, write_refusal};
+use dh_base::*;
 use std::alloc::{AllocError, Global};
 use std::fmt;
 use std::test::Fail;
-
-mod adapters;
 
 fn name(text: &str) -> Result<Name, BaseFault> {
     Name::from_bytes(text.as_bytes())

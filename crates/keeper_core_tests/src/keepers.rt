@@ -1,15 +1,13 @@
 //! Small maps, worked out by hand.
 
-mod callers;
-
-use super::*;
 use dh_base::{Id, List, NoMemory, Refusal};
+use keeper_core::*;
 use std::alloc::Global;
 use std::test::Fail;
 
 /// A keeper with "one" at "a", "two" at "b" and "three" at "ab" of table 2, and "far" at "a" of
 /// table 7.
-fn filled(alloc: Global) -> Result<MemKeeper, KeepFault> {
+pub fn filled(alloc: Global) -> Result<MemKeeper, KeepFault> {
     let mut batch = Batch::new(alloc);
     batch.put(2, b"b", b"two")?;
     batch.put(7, b"a", b"far")?;
@@ -21,14 +19,14 @@ fn filled(alloc: Global) -> Result<MemKeeper, KeepFault> {
 }
 
 /// The batch that puts "new" at "a" of table 2.
-fn one_put(alloc: Global) -> Result<Batch, NoMemory> {
+pub fn one_put(alloc: Global) -> Result<Batch, NoMemory> {
     let mut batch = Batch::new(alloc);
     batch.put(2, b"a", b"new")?;
     Ok(batch)
 }
 
 /// Whether these are the bytes that a call gave.
-fn are(given: &Option<List<u8>>, val: &[u8]) -> bool {
+pub fn are(given: &Option<List<u8>>, val: &[u8]) -> bool {
     match given {
         Some(bytes) => bytes.as_slice() == val,
         None => false,

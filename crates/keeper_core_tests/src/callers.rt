@@ -6,7 +6,10 @@ ghost use Rattle.keeper_core.specs.Knowing.{FailsNext, IsUnarmed, LooksAtMost};
 ghost use Rattle.keeper_core.specs.Keeping.{AnswersByMap};
 ghost use Rattle.keeper_core.specs.Leaving.{Leaves, done, ended, of_keep_fault, of_store_fault, Applies};
 
-use super::*;
+use crate::keepers::{are, filled, one_put};
+use dh_base::List;
+use keeper_core::{Arm, Batch, KeepFault, Keeper, StoreFault};
+use std::test::Fail;
 
 /// Reads a cell, commits the batch, and reads the cell again.
 pub fn change_seen<K: Keeper>(
@@ -31,7 +34,7 @@ pub fn change_seen<K: Keeper>(
 }
 
 /// Looks at two cells, refuses where the first is empty, and commits: the shape of a node's call.
-#[tactic(auto, using(crate::proofs::Leaving::failed_look, crate::proofs::Leaving::starved_look, crate::proofs::Leaving::failed_look_on, crate::proofs::Leaving::starved_look_on))]
+#[tactic(auto, using(keeper_core::proofs::Leaving::failed_look, keeper_core::proofs::Leaving::starved_look, keeper_core::proofs::Leaving::failed_look_on, keeper_core::proofs::Leaving::starved_look_on))]
 pub fn look_and_commit<K: Keeper>(
     keeper: &mut K,
     tab: u8,
@@ -54,7 +57,7 @@ pub fn look_and_commit<K: Keeper>(
 }
 
 /// Makes two batches, one after the other, and looks at a cell between them.
-#[tactic(auto, using(crate::proofs::Leaving::failed_look, crate::proofs::Leaving::starved_look, crate::proofs::Leaving::failed_first, crate::proofs::Leaving::starved_first, crate::proofs::Leaving::done_next, crate::proofs::Leaving::failed_next, crate::proofs::Leaving::starved_next, crate::proofs::Leaving::done_look))]
+#[tactic(auto, using(keeper_core::proofs::Leaving::failed_look, keeper_core::proofs::Leaving::starved_look, keeper_core::proofs::Leaving::failed_first, keeper_core::proofs::Leaving::starved_first, keeper_core::proofs::Leaving::done_next, keeper_core::proofs::Leaving::failed_next, keeper_core::proofs::Leaving::starved_next, keeper_core::proofs::Leaving::done_look))]
 pub fn commit_both<K: Keeper>(
     keeper: &mut K,
     tab: u8,

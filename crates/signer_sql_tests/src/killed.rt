@@ -1,7 +1,7 @@
 //! A writer that is killed while it commits, and what its file then holds. The writer is a process
 //! of its own: this program once more, started with the name of one test.
 
-use super::make_folder;
+use crate::folders::make_folder;
 use keeper_core::{Batch, KeepFault, Keeper, Store};
 use keeper_sql::SqlStore;
 use std::alloc::Global;
@@ -13,7 +13,7 @@ use std::{env, fs};
 /// The variable that tells the writer its folder.
 const FOLDER: &str = "SIGNER_SQL_FOLDER";
 
-const WRITER: &str = "tests::killed::writes_where_it_is_told_to";
+const WRITER: &str = "killed::writes_where_it_is_told_to";
 
 /// The batch of three rows under one number, each in a table of its own.
 fn numbered(alloc: Global, number: u32) -> Result<Batch, KeepFault> {

@@ -1,10 +1,10 @@
 ghost use Rattle.std.specs.Prelude.{◌≤◌, ◌<◌, length, IfOk};
 
-use crate::JoinedDeal;
-use crate::heard::{is_settled_in, keep, kept_of};
 use act_text::{HeldRow, Statement};
 use deal_core::{Deal, read_deal};
 use dh_base::{BaseFault, Id, List, Name, Outcome};
+use joined_deals::JoinedDeal;
+use joined_deals::heard::{is_settled_in, keep, kept_of};
 use keeper_core::MemKeeper;
 use key_ring::{KeySpec, Signer};
 use std::alloc::{AllocError, Global};

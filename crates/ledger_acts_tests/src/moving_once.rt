@@ -1,13 +1,13 @@
 //! Movements under their keys, over a keeper in memory: each refusal with its fields.
 
-use crate::ledger_fault::LedgerFault;
-use crate::ledger_id::LedgerId;
-use crate::once::{move_once, movement_of};
-use crate::place::Place;
-use crate::signed::Signed;
 use act_text::Act;
 use dh_base::{Id, List, Name, Outcome, digest};
 use keeper_core::{Batch, Keeper, MemKeeper};
+use ledger_acts::ledger_fault::LedgerFault;
+use ledger_acts::ledger_id::LedgerId;
+use ledger_acts::once::{move_once, movement_of};
+use ledger_acts::place::Place;
+use ledger_acts::signed::Signed;
 use ledger_rows::{
     Hold, Registration, put_free, put_hold, put_moves, put_registration, read_free, read_hold,
     read_moves,
