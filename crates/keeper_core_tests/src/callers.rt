@@ -8,7 +8,8 @@ ghost use Rattle.keeper_core.specs.Leaving.{Leaves, done, ended, of_keep_fault, 
 
 use crate::keepers::{are, filled, one_put};
 use dh_base::List;
-use keeper_core::{Arm, Batch, KeepFault, Keeper, StoreFault};
+use keeper_core::{Arm, Batch, KeepFault, Keeper, MemKeeper, StoreFault};
+use std::alloc::Global;
 use std::test::Fail;
 
 /// Reads a cell, commits the batch, and reads the cell again.
@@ -75,20 +76,29 @@ pub fn commit_both<K: Keeper>(
     Ok(())
 }
 
+/// Makes three changes, and tells whether the first is seen.
+fn seen(alloc: Global, keeper: &mut MemKeeper) -> Result<bool, Fail> {
+    let batch = one_put(alloc)?;
+    let new = change_seen(keeper, 2, b"a", &batch)?;
+    commit_both(keeper, 2, &batch, &Batch::new(alloc))?;
+    look_and_commit(keeper, 2, b"a", &batch)?;
+    Ok(are(&new, b"new"))
+}
+
 #[test]
 fn a_caller_of_any_keeper_sees_its_change(rt: HostRuntime) -> Result<(), Fail> {
-    let alloc = rt.alloc();
-    let mut keeper = filled(alloc)?;
-    let batch = one_put(alloc)?;
-    let new = change_seen(&mut keeper, 2, b"a", &batch)?;
-    assert!(rt; are(&new, b"new"));
-    assert_eq!(rt; keeper.looked(), 2);
-    commit_both(&mut keeper, 2, &batch, &Batch::new(alloc))?;
+    let mut keeper = filled(rt.alloc())?;
+    assert!(rt; seen(rt.alloc(), &mut keeper)?);
+    assert!(rt; keeper.looked() == 5);
+    Ok(())
+}
+
+#[test]
+fn a_caller_of_any_keeper_is_told_of_a_stop(rt: HostRuntime) -> Result<(), Fail> {
+    let mut keeper = filled(rt.alloc())?;
+    let batch = one_put(rt.alloc())?;
     keeper.arm(Arm::StopAfter);
-    assert_eq!(rt;
-        look_and_commit(&mut keeper, 2, b"a", &batch),
-        Err(StoreFault::Keeper)
-    );
-    assert!(rt; keeper.has_stopped());
+    let told = look_and_commit(&mut keeper, 2, b"a", &batch);
+    assert!(rt; told.err() == Some(StoreFault::Keeper) && keeper.has_stopped());
     Ok(())
 }

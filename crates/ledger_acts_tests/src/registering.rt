@@ -1,15 +1,12 @@
-//! Registrations over a keeper in memory.
+//! Registrations over a keeper in memory. A test compares the replies, a line each.
 
-use deal_core::DealFault;
 use dh_base::{Id, digest};
-use keeper_core::{Arm, Batch, Keeper, MemKeeper, StoreFault};
-use ledger_acts::ledger_fault::LedgerFault;
+use keeper_core::{Arm, Batch, Keeper, MemKeeper};
 use ledger_acts::place::Place;
 use ledger_acts::registering::register;
 use ledger_acts::signed::Signed;
 use ledger_rows::{DEAL_TAB, count_open, read_registration};
 use std::alloc::Global;
-use std::process::Abort;
 use std::test::Fail;
 
 const HOUSE: Id = Id([0x11; 32]);
@@ -30,14 +27,15 @@ fn text_in(alloc: Global, house: Id, number: u32) -> Result<String, Fail> {
     Ok(text)
 }
 
-/// The account registers the text on a ledger of the house that accepted so many acts.
-fn register_text(
+/// What a ledger of the house that accepted so many acts replies to the account that registers the
+/// text.
+fn reply(
     alloc: Global,
     keeper: &mut MemKeeper,
     acts: u32,
     account: Id,
     text: &str,
-) -> Result<(), LedgerFault> {
+) -> Result<String, Fail> {
     let place = Place {
         number: u64::from(acts) + 1,
         acts,
@@ -47,23 +45,23 @@ fn register_text(
         q: acts,
         message: text.as_bytes(),
     };
-    register(alloc, keeper, &place, &signed, &HOUSE, text.as_bytes())
+    match register(alloc, keeper, &place, &signed, &HOUSE, text.as_bytes()) {
+        Ok(()) => Ok(String::from_str(alloc, "registered\n")?),
+        Err(fault) => Ok(format!(in alloc; "{fault}\n")?),
+    }
 }
 
-/// That account has registered the text, and the deal is open.
-fn expect_registrant(
-    rt: &impl Abort,
-    alloc: Global,
-    keeper: &mut MemKeeper,
-    text: &str,
-    account: Id,
-) -> Result<(), Fail> {
-    let found = read_registration(alloc, keeper, &digest(text.as_bytes()))?;
-    assert_eq!(rt;
-        found.map(|deal| (deal.registrant, deal.settled)),
-        Some((account, None))
-    );
-    Ok(())
+/// Who registered the text, where its deal is open.
+fn registrant(alloc: Global, keeper: &mut MemKeeper, text: &str) -> Result<Option<Id>, Fail> {
+    match read_registration(alloc, keeper, &digest(text.as_bytes()))? {
+        Some(deal) if deal.settled.is_none() => Ok(Some(deal.registrant)),
+        _ => Ok(None),
+    }
+}
+
+/// How many open deals Ann and Ben registered.
+fn open_deals(keeper: &mut MemKeeper) -> Result<(usize, usize), Fail> {
+    Ok((count_open(keeper, &ANN)?, count_open(keeper, &BEN)?))
 }
 
 #[test]
@@ -71,94 +69,91 @@ fn a_registered_deal_stays(rt: HostRuntime) -> Result<(), Fail> {
     let alloc = rt.alloc();
     let mut keeper = MemKeeper::new(alloc);
     let text = text_in(alloc, HOUSE, 1)?;
-    let reply = register_text(alloc, &mut keeper, 0, ANN, text.as_str());
-    assert!(rt; matches!(&reply, Ok(())));
-    expect_registrant(&rt, alloc, &mut keeper, text.as_str(), ANN)?;
-    let reply = register_text(alloc, &mut keeper, 1, BEN, text.as_str());
-    assert!(rt; matches!(&reply, Ok(())));
-    expect_registrant(&rt, alloc, &mut keeper, text.as_str(), ANN)?;
-    assert_eq!(rt; count_open(&mut keeper, &ANN)?, 1);
-    assert_eq!(rt; count_open(&mut keeper, &BEN)?, 0);
+    assert!(rt; reply(alloc, &mut keeper, 0, ANN, &text)?.as_str() == "registered\n");
+    assert!(rt; reply(alloc, &mut keeper, 1, BEN, &text)?.as_str() == "registered\n");
+    assert!(rt; registrant(alloc, &mut keeper, &text)? == Some(ANN));
+    assert!(rt; open_deals(&mut keeper)? == (1, 0));
     Ok(())
+}
+
+/// What a ledger that accepted so many acts, and has no deal, replies.
+fn first_reply(alloc: Global, acts: u32, account: Id, text: &str) -> Result<String, Fail> {
+    reply(alloc, &mut MemKeeper::new(alloc), acts, account, text)
 }
 
 #[test]
 fn texts_that_are_not_registered(rt: HostRuntime) -> Result<(), Fail> {
     let alloc = rt.alloc();
-    let mut keeper = MemKeeper::new(alloc);
-    let reply = register_text(alloc, &mut keeper, 0, ANN, "no deal\n");
-    assert!(rt;
-        matches!(
-            &reply,
-            Err(LedgerFault::BadDeal {
-                fault: DealFault::BadLine { line: 1 }
-            })
-        )
-    );
+    let stranger = CAY;
     let elsewhere = text_in(alloc, CAY, 1)?;
-    let reply = register_text(alloc, &mut keeper, 0, ANN, elsewhere.as_str());
-    assert!(rt; matches!(&reply, Err(LedgerFault::WrongHouse { named }) if *named == CAY));
-    let reply = register_text(alloc, &mut keeper, 0, CAY, elsewhere.as_str());
-    assert!(rt; matches!(&reply, Err(LedgerFault::WrongHouse { named }) if *named == CAY));
-    let text = text_in(alloc, HOUSE, 1)?;
-    let reply = register_text(alloc, &mut keeper, 0, CAY, text.as_str());
-    assert!(rt; matches!(&reply, Err(LedgerFault::NotAParty { account }) if *account == CAY));
-    let reply = register_text(alloc, &mut keeper, 1_000_000, ANN, text.as_str());
-    assert!(rt; matches!(&reply, Err(LedgerFault::LedgerFull { acts: 1_000_000 })));
-    assert_eq!(rt; count_open(&mut keeper, &ANN)?, 0);
+    let wrong_house = format!(in alloc; "6 WrongHouse {stranger}\n")?;
+    assert!(rt; first_reply(alloc, 0, ANN, "no deal\n")?.as_str() == "5 BadDeal 1 BadLine 1\n");
+    assert!(rt; first_reply(alloc, 0, ANN, &elsewhere)? == wrong_house);
+    assert!(rt; first_reply(alloc, 0, CAY, &elsewhere)? == wrong_house);
     Ok(())
 }
 
 #[test]
-fn rows_and_keepers_that_fail(rt: HostRuntime) -> Result<(), Fail> {
+fn deals_that_are_not_registered(rt: HostRuntime) -> Result<(), Fail> {
+    let alloc = rt.alloc();
+    let stranger = CAY;
+    let text = text_in(alloc, HOUSE, 1)?;
+    let not_a_party = format!(in alloc; "8 NotAParty {stranger}\n")?;
+    assert!(rt; first_reply(alloc, 0, CAY, &text)? == not_a_party);
+    let full = first_reply(alloc, 1_000_000, ANN, &text)?;
+    assert!(rt; full.as_str() == "14 LedgerFull 1000000\n");
+    Ok(())
+}
+
+#[test]
+fn a_keeper_that_stops_registers_nothing(rt: HostRuntime) -> Result<(), Fail> {
     let alloc = rt.alloc();
     let mut keeper = MemKeeper::new(alloc);
     let text = text_in(alloc, HOUSE, 1)?;
     keeper.arm(Arm::StopBefore);
-    let reply = register_text(alloc, &mut keeper, 0, ANN, text.as_str());
-    assert!(rt;
-        matches!(
-            &reply,
-            Err(LedgerFault::Store {
-                fault: StoreFault::Keeper
-            })
-        )
-    );
+    assert!(rt; reply(alloc, &mut keeper, 0, ANN, &text)?.as_str() == "15 Store 1 Keeper\n");
     keeper.restart();
+    assert!(rt; open_deals(&mut keeper)? == (0, 0));
+    Ok(())
+}
+
+#[test]
+fn a_row_without_its_form_is_named(rt: HostRuntime) -> Result<(), Fail> {
+    let alloc = rt.alloc();
+    let mut keeper = MemKeeper::new(alloc);
     let mut batch = Batch::new(alloc);
     batch.put(DEAL_TAB, b"key", b"short")?;
     keeper.commit(&batch)?;
     let key = digest(b"key");
-    let reply = register_text(alloc, &mut keeper, 0, ANN, text.as_str());
-    assert!(rt;
-        matches!(
-            &reply,
-            Err(LedgerFault::Store {
-                fault: StoreFault::BadRow { tab: 3, key: named }
-            }) if *named == key
-        )
-    );
+    let wanted = format!(in alloc; "15 Store 2 BadRow 3 {key}\n")?;
+    assert!(rt; reply(alloc, &mut keeper, 0, ANN, &text_in(alloc, HOUSE, 1)?)? == wanted);
     Ok(())
+}
+
+/// A keeper with so many open deals that Ann registered.
+fn with_deals(alloc: Global, deals: u32) -> Result<MemKeeper, Fail> {
+    let mut keeper = MemKeeper::new(alloc);
+    for number in 0..deals {
+        let _told = reply(
+            alloc,
+            &mut keeper,
+            number,
+            ANN,
+            &text_in(alloc, HOUSE, number)?,
+        )?;
+    }
+    Ok(keeper)
 }
 
 #[test]
 fn sixty_four_open_deals(rt: HostRuntime) -> Result<(), Fail> {
     let alloc = rt.alloc();
-    let mut keeper = MemKeeper::new(alloc);
-    for number in 0..64 {
-        let text = text_in(alloc, HOUSE, number)?;
-        let reply = register_text(alloc, &mut keeper, number, ANN, text.as_str());
-        assert!(rt; matches!(&reply, Ok(())));
-    }
-    let next = text_in(alloc, HOUSE, 64)?;
-    let reply = register_text(alloc, &mut keeper, 64, ANN, next.as_str());
-    assert!(rt; matches!(&reply, Err(LedgerFault::DealsFull { held: 64 })));
+    let mut keeper = with_deals(alloc, 64)?;
     let first = text_in(alloc, HOUSE, 0)?;
-    let reply = register_text(alloc, &mut keeper, 64, ANN, first.as_str());
-    assert!(rt; matches!(&reply, Ok(())));
-    let reply = register_text(alloc, &mut keeper, 65, BEN, next.as_str());
-    assert!(rt; matches!(&reply, Ok(())));
-    let reply = register_text(alloc, &mut keeper, 66, ANN, next.as_str());
-    assert!(rt; matches!(&reply, Ok(())));
+    let next = text_in(alloc, HOUSE, 64)?;
+    assert!(rt; reply(alloc, &mut keeper, 64, ANN, &next)?.as_str() == "9 DealsFull 64\n");
+    assert!(rt; reply(alloc, &mut keeper, 64, ANN, &first)?.as_str() == "registered\n");
+    assert!(rt; reply(alloc, &mut keeper, 65, BEN, &next)?.as_str() == "registered\n");
+    assert!(rt; reply(alloc, &mut keeper, 66, ANN, &next)?.as_str() == "registered\n");
     Ok(())
 }

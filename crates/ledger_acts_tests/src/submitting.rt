@@ -1,19 +1,17 @@
-//! Envelopes over a keeper in memory.
+//! Envelopes over a keeper in memory. A test compares the replies, a line each.
 
 ghost use Rattle.std.specs.Prelude.{◌≡◌, ◌<◌, IfOk};
 ghost use Rattle.act_text.specs.ActTexts.{TextFits};
 
-use act_text::{Act, ActFault, write_act};
-use dh_base::{Id, Name, digest};
-use keeper_core::{Arm, Batch, Keeper, MemKeeper, StoreFault};
-use key_ring::{EnvFault, KeySpec, account_of, make_envelope, make_ring};
-use ledger_acts::ledger_fault::LedgerFault;
+use act_text::{Act, write_act};
+use dh_base::{Id, List, Name, digest};
+use keeper_core::{Arm, Batch, Keeper, MemKeeper};
+use key_ring::{Envelope, KeySpec, account_of, make_envelope, make_ring};
 use ledger_acts::ledger_id::LedgerId;
 use ledger_acts::place::Place;
 use ledger_acts::submitting::submit;
 use ledger_rows::{put_free, read_free};
 use std::alloc::Global;
-use std::process::Abort;
 use std::test::Fail;
 
 const HOUSE: Id = Id([0x11; 32]);
@@ -74,36 +72,32 @@ fn with_amount(alloc: Global, amount: u64) -> Result<MemKeeper, Fail> {
     Ok(keeper)
 }
 
-/// What the ledger of coins, which has no entry, replies to that message under Ann's key.
-fn ask(
-    alloc: Global,
-    keeper: &mut MemKeeper,
-    q: u32,
-    message: &[u8],
-) -> Result<Result<u64, LedgerFault>, Fail>
+/// What the ledger of coins, which has no entry, replies to the envelope.
+fn reply(alloc: Global, keeper: &mut MemKeeper, env: &Envelope) -> Result<String, Fail> {
+    let place = Place { number: 1, acts: 0 };
+    if env.message.len() > 16_384 {
+        return Err(Fail::from("long"));
+    }
+    match submit(alloc, keeper, &coins()?, &place, env) {
+        Ok(number) => Ok(format!(in alloc; "{number}\n")?),
+        Err(fault) => Ok(format!(in alloc; "{fault}\n")?),
+    }
+}
+
+/// What it replies to that message under Ann's key of that number.
+fn ask(alloc: Global, keeper: &mut MemKeeper, q: u32, message: &[u8]) -> Result<String, Fail>
     requires { q < 2 }
 {
     if message.len() > 16_384 {
         return Err(Fail::from("long"));
     }
-    let env = make_envelope(alloc, &keys(), q, message)?;
-    let place = Place { number: 1, acts: 0 };
-    if env.message.as_slice().len() > 16_384 {
-        return Err(Fail::from("long"));
-    }
-    Ok(submit(alloc, keeper, &coins()?, &place, &env))
+    reply(alloc, keeper, &make_envelope(alloc, &keys(), q, message)?)
 }
 
-fn expect_held(
-    rt: &impl Abort,
-    alloc: Global,
-    keeper: &mut MemKeeper,
-    own: u64,
-    other: u64,
-) -> Result<(), Fail> {
-    assert_eq!(rt; read_free(alloc, keeper, &ann(alloc)?, &coin()?)?, own);
-    assert_eq!(rt; read_free(alloc, keeper, &BEN, &coin()?)?, other);
-    Ok(())
+/// What Ann and Ben can spend.
+fn held(alloc: Global, keeper: &mut MemKeeper) -> Result<(u64, u64), Fail> {
+    let own = read_free(alloc, keeper, &ann(alloc)?, &coin()?)?;
+    Ok((own, read_free(alloc, keeper, &BEN, &coin()?)?))
 }
 
 #[test]
@@ -111,29 +105,23 @@ fn repeated_pay(rt: HostRuntime) -> Result<(), Fail> {
     let alloc = rt.alloc();
     let mut keeper = with_amount(alloc, 10)?;
     let three = text_of(alloc, 3)?;
-    let reply = ask(alloc, &mut keeper, 0, three.as_slice())?;
-    assert!(rt; matches!(&reply, Ok(1)));
-    let reply = ask(alloc, &mut keeper, 0, three.as_slice())?;
-    assert!(rt; matches!(&reply, Ok(1)));
-    let four = text_of(alloc, 4)?;
-    let reply = ask(alloc, &mut keeper, 0, four.as_slice())?;
-    let kept = digest(three.as_slice());
-    assert!(rt; matches!(&reply, Err(LedgerFault::KeyReused { kept: named }) if *named == kept));
-    expect_held(&rt, alloc, &mut keeper, 7, 3)
+    assert!(rt; ask(alloc, &mut keeper, 0, &three)?.as_str() == "1\n");
+    assert!(rt; ask(alloc, &mut keeper, 0, &three)?.as_str() == "1\n");
+    let kept = digest(&three);
+    let reused = format!(in alloc; "3 KeyReused {kept}\n")?;
+    assert!(rt; ask(alloc, &mut keeper, 0, &text_of(alloc, 4)?)? == reused);
+    assert!(rt; held(alloc, &mut keeper)? == (7, 3));
+    Ok(())
 }
 
 #[test]
 fn amounts_at_the_limit(rt: HostRuntime) -> Result<(), Fail> {
     let alloc = rt.alloc();
     let mut keeper = with_amount(alloc, MOST)?;
-    let all = text_of(alloc, MOST)?;
-    let reply = ask(alloc, &mut keeper, 0, all.as_slice())?;
-    assert!(rt; matches!(&reply, Ok(1)));
-    expect_held(&rt, alloc, &mut keeper, 0, MOST)?;
-    let one = text_of(alloc, 1)?;
-    let reply = ask(alloc, &mut keeper, 1, one.as_slice())?;
-    assert!(rt; matches!(&reply, Err(LedgerFault::Short { held: 0 })));
-    expect_held(&rt, alloc, &mut keeper, 0, MOST)
+    assert!(rt; ask(alloc, &mut keeper, 0, &text_of(alloc, MOST)?)?.as_str() == "1\n");
+    assert!(rt; ask(alloc, &mut keeper, 1, &text_of(alloc, 1)?)?.as_str() == "13 Short 0\n");
+    assert!(rt; held(alloc, &mut keeper)? == (0, MOST));
+    Ok(())
 }
 
 #[test]
@@ -142,47 +130,29 @@ fn failed_commit(rt: HostRuntime) -> Result<(), Fail> {
     let mut keeper = with_amount(alloc, 10)?;
     let three = text_of(alloc, 3)?;
     keeper.arm(Arm::StopBefore);
-    let reply = ask(alloc, &mut keeper, 0, three.as_slice())?;
-    assert!(rt;
-        matches!(
-            &reply,
-            Err(LedgerFault::Store {
-                fault: StoreFault::Keeper
-            })
-        )
-    );
+    assert!(rt; ask(alloc, &mut keeper, 0, &three)?.as_str() == "15 Store 1 Keeper\n");
     keeper.restart();
-    expect_held(&rt, alloc, &mut keeper, 10, 0)?;
-    let reply = ask(alloc, &mut keeper, 0, three.as_slice())?;
-    assert!(rt; matches!(&reply, Ok(1)));
-    expect_held(&rt, alloc, &mut keeper, 7, 3)
+    assert!(rt; held(alloc, &mut keeper)? == (10, 0));
+    assert!(rt; ask(alloc, &mut keeper, 0, &three)?.as_str() == "1\n");
+    assert!(rt; held(alloc, &mut keeper)? == (7, 3));
+    Ok(())
+}
+
+/// An envelope of no message, under a key number that Ann's ring doesn't have.
+fn outside(alloc: Global) -> Result<Envelope, Fail> {
+    let mut env = make_envelope(alloc, &keys(), 0, b"pay ben")?;
+    env.q = 2;
+    env.message = List::from_vec(Vec::new(alloc));
+    Ok(env)
 }
 
 #[test]
 fn bad_acts_and_envelopes(rt: HostRuntime) -> Result<(), Fail> {
     let alloc = rt.alloc();
     let mut keeper = with_amount(alloc, 10)?;
-    let reply = ask(alloc, &mut keeper, 0, b"pay ben")?;
-    assert!(rt;
-        matches!(
-            &reply,
-            Err(LedgerFault::BadAct {
-                fault: ActFault::BadTag
-            })
-        )
-    );
-    let mut env = make_envelope(alloc, &keys(), 0, b"pay ben")?;
-    env.q = 2;
-    env.message = dh_base::List::from_vec(Vec::new(alloc));
-    let place = Place { number: 1, acts: 0 };
-    let reply = submit(alloc, &mut keeper, &coins()?, &place, &env);
-    assert!(rt;
-        matches!(
-            &reply,
-            Err(LedgerFault::BadEnvelope {
-                fault: EnvFault::KeyOutside { q: 2, n: 2 }
-            })
-        )
-    );
-    expect_held(&rt, alloc, &mut keeper, 10, 0)
+    assert!(rt; ask(alloc, &mut keeper, 0, b"pay ben")?.as_str() == "2 BadAct 1 BadTag\n");
+    let told = reply(alloc, &mut keeper, &outside(alloc)?)?;
+    assert!(rt; told.as_str() == "1 BadEnvelope 3 KeyOutside 2 2\n");
+    assert!(rt; held(alloc, &mut keeper)? == (10, 0));
+    Ok(())
 }

@@ -1,16 +1,13 @@
-//! Ledgers over a keeper in memory.
+//! Ledgers over a keeper in memory. A test compares what a ledger tells, as text.
 
-use act_text::HeldRow;
+use act_text::{HeldRow, Statement};
 use cert_core::read_set;
 use dh_base::{Id, List, Name, Outcome};
-use keeper_core::{Arm, Batch, Keeper, MemKeeper, StoreFault};
-use ledger_core::ask_fault::AskFault;
+use keeper_core::{Arm, Batch, Keeper, MemKeeper};
 use ledger_core::ledger::Ledger;
-use ledger_core::open_fault::OpenFault;
 use ledger_core::opening::{OpenRow, Opening};
 use ledger_rows::{Hold, Registration, put_hold, put_moves, put_registration};
 use std::alloc::Global;
-use std::process::Abort;
 use std::test::Fail;
 
 const ANN: Id = Id([0x22; 32]);
@@ -63,93 +60,106 @@ fn opening(alloc: Global, amount: u64) -> Result<Opening, Fail> {
     })
 }
 
-fn held(asset: &[u8], amount: u64) -> Result<HeldRow, Fail> {
-    Ok(HeldRow {
-        asset: Name::from_bytes(asset)?,
-        amount,
-    })
+/// Each row as its asset and its amount, with a space behind each.
+fn rows_told(alloc: Global, rows: &[HeldRow]) -> Result<String, Fail> {
+    let mut told = String::new(alloc);
+    for row in rows {
+        let (asset, amount) = (row.asset, row.amount);
+        told.push_str(&format!(in alloc; "{asset} {amount} ")?)?;
+    }
+    Ok(told)
 }
 
-/// Ann has what she began with.
-fn expect_begun(rt: &impl Abort, ledger: &mut Ledger<MemKeeper>) -> Result<(), Fail> {
-    let rows = ledger.account(&ANN)?;
-    assert_eq!(rt; rows.as_slice().len(), 2);
-    assert!(rt; rows.as_slice().first() == Some(&held(b"aa", 6)?));
-    assert!(rt; rows.as_slice().last() == Some(&held(b"b", 5)?));
-    assert_eq!(rt; ledger.account(&BEN)?.as_slice().len(), 0);
-    assert_eq!(rt; ledger.settlement(&DEAL).err(), Some(AskFault::UnknownDeal));
-    assert_eq!(rt;
-        ledger.statement(&DEAL, &ANN).err(),
-        Some(AskFault::UnknownDeal)
-    );
-    Ok(())
-}
-
-/// The keeper of a ledger that is opened over that one.
-fn begun(rt: &impl Abort, alloc: Global, keeper: MemKeeper) -> Result<MemKeeper, Fail> {
-    match Ledger::open(alloc, keeper, &opening(alloc, 5)?) {
-        Ok(ledger) => {
-            let mut ledger = ledger;
-            expect_begun(rt, &mut ledger)?;
-            Ok(ledger.close())
-        }
-        Err(refused) => {
-            assert!(rt; false);
-            Ok(refused.keeper)
-        }
+/// What the account can spend.
+fn account_told(
+    alloc: Global,
+    ledger: &mut Ledger<MemKeeper>,
+    account: &Id,
+) -> Result<String, Fail> {
+    match ledger.account(account) {
+        Ok(rows) => rows_told(alloc, rows.as_slice()),
+        Err(fault) => Ok(format!(in alloc; "{fault}")?),
     }
 }
 
-/// The keeper of a ledger that is refused so.
-fn refused(
-    rt: &impl Abort,
+/// What the ledger settled the deal by.
+fn settlement_told(alloc: Global, ledger: &mut Ledger<MemKeeper>) -> Result<String, Fail> {
+    match ledger.settlement(&DEAL) {
+        Ok(Some(outcome)) => Ok(format!(in alloc; "{outcome}")?),
+        Ok(None) => Ok(String::from_str(alloc, "open")?),
+        Err(fault) => Ok(format!(in alloc; "{fault}")?),
+    }
+}
+
+/// The statement's numbers and rows.
+fn told(alloc: Global, statement: &Statement) -> Result<String, Fail> {
+    let (at, moves) = (statement.at, statement.moves);
+    let rows = rows_told(alloc, statement.rows.as_slice())?;
+    Ok(format!(in alloc; "at {at} moves {moves} rows {rows}")?)
+}
+
+/// What the ledger states of the party in the deal.
+fn statement_told(
     alloc: Global,
-    keeper: MemKeeper,
-    amount: u64,
-    fault: OpenFault,
-) -> Result<MemKeeper, Fail> {
+    ledger: &mut Ledger<MemKeeper>,
+    party: &Id,
+) -> Result<String, Fail> {
+    match ledger.statement(&DEAL, party) {
+        Ok(statement) => told(alloc, &statement),
+        Err(fault) => Ok(format!(in alloc; "{fault}")?),
+    }
+}
+
+/// What a ledger of that opening over the keeper tells of Ann and Ben, or why it isn't opened; and
+/// the keeper.
+fn opened(alloc: Global, keeper: MemKeeper, amount: u64) -> Result<(MemKeeper, String), Fail> {
     match Ledger::open(alloc, keeper, &opening(alloc, amount)?) {
         Ok(ledger) => {
-            assert!(rt; false);
-            Ok(ledger.close())
+            let mut ledger = ledger;
+            let ann = account_told(alloc, &mut ledger, &ANN)?;
+            let ben = account_told(alloc, &mut ledger, &BEN)?;
+            Ok((ledger.close(), format!(in alloc; "ann {ann}ben {ben}")?))
         }
         Err(refused) => {
-            assert_eq!(rt; refused.fault, fault);
-            Ok(refused.keeper)
+            let fault = format!(in alloc; "{}", refused.fault)?;
+            Ok((refused.keeper, fault))
         }
     }
 }
+
+/// What is told where Ann has what she began with.
+const BEGUN: &str = "ann aa 6 b 5 ben ";
 
 #[test]
 fn a_ledger_is_opened_again(rt: HostRuntime) -> Result<(), Fail> {
     let alloc = rt.alloc();
-    let keeper = refused(
-        &rt,
-        alloc,
-        MemKeeper::new(alloc),
-        0,
-        OpenFault::BadOpening { row: 0 },
-    )?;
-    let keeper = begun(&rt, alloc, keeper)?;
-    let keeper = begun(&rt, alloc, keeper)?;
-    let other = OpenFault::OtherOpening { kept: IDENTITY };
-    let keeper = refused(&rt, alloc, keeper, 4, other)?;
-    begun(&rt, alloc, keeper)?;
+    let (keeper, told) = opened(alloc, MemKeeper::new(alloc), 0)?;
+    assert!(rt; told.as_str() == "1 BadOpening 0");
+    let (keeper, told) = opened(alloc, keeper, 5)?;
+    assert!(rt; told.as_str() == BEGUN);
+    let (keeper, told) = opened(alloc, keeper, 5)?;
+    assert!(rt; told.as_str() == BEGUN);
+    let (_, told) = opened(alloc, keeper, 4)?;
+    let kept = IDENTITY;
+    assert!(rt; told == format!(in alloc; "2 OtherOpening {kept}")?);
     Ok(())
+}
+
+/// A keeper that is told so fails the opening, and is opened when it runs again.
+fn fails_once(alloc: Global, what: Arm) -> Result<bool, Fail> {
+    let mut keeper = MemKeeper::new(alloc);
+    keeper.arm(what);
+    let (keeper, refused) = opened(alloc, keeper, 5)?;
+    let mut keeper = keeper;
+    keeper.restart();
+    let (_, begun) = opened(alloc, keeper, 5)?;
+    Ok(refused.as_str() == "3 Store 1 Keeper" && begun.as_str() == BEGUN)
 }
 
 #[test]
 fn each_keeper_call_fails(rt: HostRuntime) -> Result<(), Fail> {
-    let alloc = rt.alloc();
     for what in [Arm::FailNext, Arm::StopBefore, Arm::StopAfter] {
-        let mut keeper = MemKeeper::new(alloc);
-        keeper.arm(what);
-        let failed = OpenFault::Store {
-            fault: StoreFault::Keeper,
-        };
-        let mut keeper = refused(&rt, alloc, keeper, 5, failed)?;
-        keeper.restart();
-        begun(&rt, alloc, keeper)?;
+        assert!(rt; fails_once(rt.alloc(), what)?);
     }
     Ok(())
 }
@@ -185,25 +195,48 @@ fn put_deal(alloc: Global, keeper: &mut MemKeeper) -> Result<(), Fail> {
     Ok(())
 }
 
+/// A ledger with a deal that is settled.
+fn settled(alloc: Global) -> Result<Ledger<MemKeeper>, Fail> {
+    let (keeper, _) = opened(alloc, MemKeeper::new(alloc), 5)?;
+    let mut keeper = keeper;
+    put_deal(alloc, &mut keeper)?;
+    match Ledger::open(alloc, keeper, &opening(alloc, 5)?) {
+        Ok(ledger) => Ok(ledger),
+        Err(refused) => Err(Fail::from(refused.fault)),
+    }
+}
+
 #[test]
 fn a_party_is_told_what_it_owns(rt: HostRuntime) -> Result<(), Fail> {
     let alloc = rt.alloc();
-    let mut keeper = begun(&rt, alloc, MemKeeper::new(alloc))?;
-    put_deal(alloc, &mut keeper)?;
-    match Ledger::open(alloc, keeper, &opening(alloc, 5)?) {
-        Ok(ledger) => {
-            let mut ledger = ledger;
-            let told = ledger.statement(&DEAL, &ANN)?;
-            assert!(rt; told.house == HOUSE && told.deal == DEAL && told.party == ANN);
-            assert!(rt; told.at == 0 && told.moves == 3);
-            assert_eq!(rt; told.settled, Some(Outcome::Commit));
-            assert_eq!(rt; told.rows.as_slice().len(), 1);
-            assert!(rt; told.rows.as_slice().first() == Some(&held(b"b", 2)?));
-            let outsider = AskFault::NotAParty { account: HOUSE };
-            assert_eq!(rt; ledger.statement(&DEAL, &HOUSE).err(), Some(outsider));
-            assert_eq!(rt; ledger.settlement(&DEAL)?, Some(Outcome::Commit));
-        }
-        Err(_) => assert!(rt; false),
-    }
+    let mut ledger = settled(alloc)?;
+    let told = statement_told(alloc, &mut ledger, &ANN)?;
+    assert!(rt; told.as_str() == "at 0 moves 3 rows b 2 ");
+    let stranger = HOUSE;
+    let outsider = format!(in alloc; "2 NotAParty {stranger}")?;
+    assert!(rt; statement_told(alloc, &mut ledger, &HOUSE)? == outsider);
+    assert!(rt; settlement_told(alloc, &mut ledger)?.as_str() == "commit");
+    Ok(())
+}
+
+#[test]
+fn a_statement_names_what_it_is_of(rt: HostRuntime) -> Result<(), Fail> {
+    let told = settled(rt.alloc())?.statement(&DEAL, &ANN)?;
+    assert!(rt; told.house == HOUSE && told.deal == DEAL && told.party == ANN);
+    assert!(rt; told.settled == Some(Outcome::Commit));
+    Ok(())
+}
+
+#[test]
+fn a_deal_that_is_not_registered_is_unknown(rt: HostRuntime) -> Result<(), Fail> {
+    let alloc = rt.alloc();
+    let keeper = MemKeeper::new(alloc);
+    let Ok(ledger) = Ledger::open(alloc, keeper, &opening(alloc, 5)?) else {
+        return Err(Fail::from("refused"));
+    };
+    let mut ledger = ledger;
+    assert!(rt; settlement_told(alloc, &mut ledger)?.as_str() == "1 UnknownDeal");
+    let told = statement_told(alloc, &mut ledger, &ANN)?;
+    assert!(rt; told.as_str() == "1 UnknownDeal");
     Ok(())
 }

@@ -1,4 +1,4 @@
-//! Envelopes to a ledger over a keeper in memory.
+//! Envelopes to a ledger over a keeper in memory. A test compares the replies, as text.
 
 ghost use Rattle.std.specs.Prelude.{◌≡◌, ◌<◌, IfOk};
 ghost use Rattle.act_text.specs.ActTexts.{TextFits};
@@ -8,12 +8,10 @@ use cert_core::{read_set, set_id};
 use dh_base::{Id, List, Name, digest};
 use keeper_core::MemKeeper;
 use key_ring::{Envelope, KeySpec, account_of, make_envelope, make_ring};
-use ledger_acts::LedgerFault;
 use ledger_core::act_reply::ActReply;
 use ledger_core::ledger::Ledger;
 use ledger_core::opening::{OpenRow, Opening};
 use std::alloc::Global;
-use std::process::Abort;
 use std::test::Fail;
 
 const BEN: Id = Id([0x44; 32]);
@@ -77,44 +75,55 @@ fn opened(alloc: Global, keeper: MemKeeper) -> Result<Ledger<MemKeeper>, Fail> {
     }
 }
 
-fn ask(
-    ledger: &mut Ledger<MemKeeper>,
-    env: &Envelope,
-) -> Result<Result<ActReply, LedgerFault>, Fail> {
+/// What the ledger replies.
+fn reply(alloc: Global, ledger: &mut Ledger<MemKeeper>, env: &Envelope) -> Result<String, Fail> {
     if env.message.as_slice().len() > 16_384 {
         return Err(Fail::from("long"));
     }
-    Ok(ledger.submit(env))
+    match ledger.submit(env) {
+        Ok(ActReply::Done { at }) => Ok(format!(in alloc; "done {at}")?),
+        Err(fault) => Ok(format!(in alloc; "{fault}")?),
+    }
 }
 
-fn ben_has(rt: &impl Abort, ledger: &mut Ledger<MemKeeper>, amount: u64) -> Result<(), Fail> {
+/// What Ben can spend, of each asset.
+fn ben_has(ledger: &mut Ledger<MemKeeper>, amount: u64) -> Result<bool, Fail> {
     let rows = ledger.account(&BEN)?;
-    assert_eq!(rt; rows.as_slice().len(), 1);
-    assert!(rt; matches!(rows.as_slice().first(), Some(row) if row.amount == amount));
-    Ok(())
+    Ok(matches!(rows.as_slice(), [row] if row.amount == amount))
 }
 
 #[test]
-fn an_act_is_taken_once_and_kept(rt: HostRuntime) -> Result<(), Fail> {
+fn an_act_is_taken_once(rt: HostRuntime) -> Result<(), Fail> {
     let alloc = rt.alloc();
     let house = set_id(&opening(alloc)?.genesis);
     let three = paying(alloc, house, 0, 3)?;
-    let four = paying(alloc, house, 1, 4)?;
-    let other = paying(alloc, house, 0, 5)?;
     let mut ledger = opened(alloc, MemKeeper::new(alloc))?;
-    assert!(rt; matches!(ask(&mut ledger, &three)?, Ok(ActReply::Done { at: 1 })));
-    assert!(rt; matches!(ask(&mut ledger, &three)?, Ok(ActReply::Done { at: 1 })));
-    ben_has(&rt, &mut ledger, 3)?;
-    assert!(rt; matches!(ask(&mut ledger, &four)?, Ok(ActReply::Done { at: 2 })));
-    let mut ledger = opened(alloc, ledger.close())?;
-    assert!(rt; matches!(ask(&mut ledger, &three)?, Ok(ActReply::Done { at: 1 })));
-    assert!(rt; matches!(ask(&mut ledger, &four)?, Ok(ActReply::Done { at: 2 })));
+    assert!(rt; reply(alloc, &mut ledger, &three)?.as_str() == "done 1");
+    assert!(rt; reply(alloc, &mut ledger, &three)?.as_str() == "done 1");
     let kept = digest(three.message.as_slice());
-    assert!(rt;
-        matches!(
-            ask(&mut ledger, &other)?,
-            Err(LedgerFault::KeyReused { kept: named }) if named == kept
-        )
-    );
-    ben_has(&rt, &mut ledger, 7)
+    let reused = format!(in alloc; "3 KeyReused {kept}")?;
+    assert!(rt; reply(alloc, &mut ledger, &paying(alloc, house, 0, 5)?)? == reused);
+    assert!(rt; ben_has(&mut ledger, 3)?);
+    Ok(())
+}
+
+/// The keeper of a ledger to which Ann paid 3 and then 4.
+fn with_seven(alloc: Global, house: Id) -> Result<MemKeeper, Fail> {
+    let mut ledger = opened(alloc, MemKeeper::new(alloc))?;
+    let _first = reply(alloc, &mut ledger, &paying(alloc, house, 0, 3)?)?;
+    let _second = reply(alloc, &mut ledger, &paying(alloc, house, 1, 4)?)?;
+    Ok(ledger.close())
+}
+
+#[test]
+fn acts_are_kept(rt: HostRuntime) -> Result<(), Fail> {
+    let alloc = rt.alloc();
+    let house = set_id(&opening(alloc)?.genesis);
+    let mut ledger = opened(alloc, with_seven(alloc, house)?)?;
+    let three = paying(alloc, house, 0, 3)?;
+    assert!(rt; reply(alloc, &mut ledger, &three)?.as_str() == "done 1");
+    let four = paying(alloc, house, 1, 4)?;
+    assert!(rt; reply(alloc, &mut ledger, &four)?.as_str() == "done 2");
+    assert!(rt; ben_has(&mut ledger, 7)?);
+    Ok(())
 }

@@ -2,21 +2,21 @@
 
 use super::*;
 
-/// Statements that make a keeper's database, and how many rows table 2 then has.
-const KEEPERS: [(&str, usize); 4] = [
-    ("", 0),
+/// Statements that make a keeper's database, and the rows that table 2 then has.
+const KEEPERS: [(&str, &str); 4] = [
+    ("", "\n"),
     (
         "CREATE TABLE cell(tab INTEGER NOT NULL, key BLOB NOT NULL, val BLOB NOT NULL, PRIMARY KEY (tab, key)) STRICT",
-        0,
+        "\n",
     ),
     (
         "create table cell(tab integer not null, key blob not null, val blob not null, primary key (tab, key)) strict",
-        0,
+        "\n",
     ),
     (
         "CREATE TABLE cell(tab INTEGER NOT NULL, key BLOB NOT NULL, val BLOB NOT NULL, PRIMARY KEY (tab, key)) STRICT;
          INSERT INTO cell VALUES (2, x'6b', x'61'), (0, x'', x''), (255, x'6a', x'31'), (2, x'6a', x'31')",
-        2,
+        "j=1 k=a \n",
     ),
 ];
 
@@ -48,16 +48,36 @@ const OTHERS: [&str; 18] = [
      INSERT INTO cell VALUES (2, x'6b', x'61'), (256, x'6b', x'61')",
 ];
 
+/// The rows of table 2 of a keeper that adopts the connection and begins with 5 faults, or why it
+/// is refused; and how many faults the keeper and its caller then count.
+fn adopted(alloc: Global, conn: Connection<MemStore>) -> Result<(String, u64, u64), Fail> {
+    let mut faults = 5;
+    match SqlKeeper::adopt(alloc, conn, &mut faults) {
+        Ok(keeper) => {
+            let mut keeper = keeper;
+            let told = rows(alloc, &mut keeper, 2)?;
+            Ok((told, keeper.faults(), faults))
+        }
+        Err(fault) => Ok((format!(in alloc; "{fault}")?, 0, faults)),
+    }
+}
+
+/// Whether a keeper has these rows and no more faults.
+fn has_rows(alloc: Global, sql: &str, wanted: &str) -> Result<bool, Fail> {
+    let (told, own, faults) = adopted(alloc, made(alloc, sql)?)?;
+    Ok(told.as_str() == wanted && own == 5 && faults == 5)
+}
+
+/// Whether the database is refused and counted once.
+fn is_refused(alloc: Global, sql: &str) -> Result<bool, Fail> {
+    let (told, _, faults) = adopted(alloc, made(alloc, sql)?)?;
+    Ok(told.as_str() == "failed" && faults == 6)
+}
+
 #[test]
 fn a_keepers_database_is_adopted(rt: HostRuntime) -> Result<(), Fail> {
     for (sql, wanted) in KEEPERS {
-        let mut faults = 5;
-        let conn = made(rt.alloc(), sql)?;
-        let mut keeper = SqlKeeper::adopt(rt.alloc(), conn, &mut faults)?;
-        let rows = keeper.scan(2)?;
-        assert_eq!(rt; rows.len(), wanted, "at {sql}");
-        assert_eq!(rt; faults, 5);
-        assert_eq!(rt; keeper.faults(), 5);
+        assert!(rt; has_rows(rt.alloc(), sql, wanted)?, "at {sql}");
     }
     Ok(())
 }
@@ -65,24 +85,16 @@ fn a_keepers_database_is_adopted(rt: HostRuntime) -> Result<(), Fail> {
 #[test]
 fn another_database_is_refused_and_counted_once(rt: HostRuntime) -> Result<(), Fail> {
     for sql in OTHERS {
-        let mut faults = 5;
-        let conn = made(rt.alloc(), sql)?;
-        let refused = SqlKeeper::adopt(rt.alloc(), conn, &mut faults).err();
-        assert_eq!(rt; refused, Some(KeepFault::Failed), "at {sql}");
-        assert_eq!(rt; faults, 6, "at {sql}");
+        assert!(rt; is_refused(rt.alloc(), sql)?, "at {sql}");
     }
     Ok(())
 }
 
 #[test]
 fn what_is_not_committed_is_not_adopted(rt: HostRuntime) -> Result<(), Fail> {
-    let conn = made(
-        rt.alloc(),
+    let sql =
         "CREATE TABLE cell(tab INTEGER NOT NULL, key BLOB NOT NULL, val BLOB NOT NULL, PRIMARY KEY (tab, key)) STRICT;
-         INSERT INTO cell VALUES (2, x'6a', x'31'); BEGIN; INSERT INTO cell VALUES (2, x'6b', x'61')",
-    )?;
-    let mut keeper = SqlKeeper::adopt(rt.alloc(), conn, &mut 0)?;
-    let rows = keeper.scan(2)?;
-    assert!(rt; are(rows.as_slice(), &[(b"j", b"1")]));
+         INSERT INTO cell VALUES (2, x'6a', x'31'); BEGIN; INSERT INTO cell VALUES (2, x'6b', x'61')";
+    assert!(rt; has_rows(rt.alloc(), sql, "j=1 \n")?);
     Ok(())
 }

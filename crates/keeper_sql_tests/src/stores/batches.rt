@@ -2,6 +2,30 @@
 
 use super::*;
 
+/// A call of a keeper.
+#[derive(Drop)]
+enum Call<'a> {
+    /// What stands at the key of the table.
+    Get(u8, &'a [u8]),
+    /// The rows of the table.
+    Scan(u8),
+    Commit(Batch),
+}
+
+/// What the keeper answers to each call, a line each.
+fn answers<K: Keeper>(alloc: Global, keeper: &mut K, calls: &[Call<'_>]) -> Result<String, Fail> {
+    let mut told = String::new(alloc);
+    for call in calls {
+        let answer = match call {
+            Call::Get(tab, key) => value(alloc, keeper, *tab, key)?,
+            Call::Scan(tab) => rows(alloc, keeper, *tab)?,
+            Call::Commit(batch) => committed(alloc, keeper, batch)?,
+        };
+        told.push_str(&answer)?;
+    }
+    Ok(told)
+}
+
 /// Puts two values at one key of table 2 and deletes another key, in one batch.
 fn database_batch(alloc: Global) -> Result<Batch, KeepFault> {
     let mut batch = Batch::new(alloc);
@@ -11,28 +35,17 @@ fn database_batch(alloc: Global) -> Result<Batch, KeepFault> {
     Ok(batch)
 }
 
-/// The rows of table 2 behind that batch, in a keeper to which a row at the key that it deletes was
-/// put. None where the row didn't come or didn't go.
-fn database_batch_rows<K: Keeper>(
-    alloc: Global,
-    keeper: &mut K,
-) -> Result<Option<List<Row>>, KeepFault> {
-    keeper.commit(&one_put(alloc, b"j", b"1")?)?;
-    let came = keeper.get(2, b"j")?;
-    keeper.commit(&database_batch(alloc)?)?;
-    let went = keeper.get(2, b"j")?;
-    if came.is_none() || went.is_some() {
-        return Ok(None);
-    }
-    Ok(Some(keeper.scan(2)?))
-}
-
-/// Whether the batch leaves one row, whose value is the later of the two.
-fn database_batch_holds<K: Keeper>(alloc: Global, keeper: &mut K) -> Result<bool, KeepFault> {
-    match database_batch_rows(alloc, keeper)? {
-        Some(rows) => Ok(are(rows.as_slice(), &[(b"k", b"b")])),
-        None => Ok(false),
-    }
+/// Whether that batch leaves one row, whose value is the later of the two, in a keeper to which a
+/// row at the key that it deletes was put.
+fn database_batch_holds<K: Keeper>(alloc: Global, keeper: &mut K) -> Result<bool, Fail> {
+    let calls = [
+        Call::Commit(one_put(alloc, b"j", b"1")?),
+        Call::Get(2, b"j"),
+        Call::Commit(database_batch(alloc)?),
+        Call::Get(2, b"j"),
+        Call::Scan(2),
+    ];
+    Ok(answers(alloc, keeper, &calls)?.as_str() == "kept\n1\nkept\nnone\nk=b \n")
 }
 
 #[test]
@@ -61,24 +74,22 @@ fn far_and_near(alloc: Global) -> Result<Batch, KeepFault> {
     Ok(batch)
 }
 
+/// What a keeper answers behind that batch.
+fn far_and_near_told<K: Keeper>(alloc: Global, keeper: &mut K) -> Result<String, Fail> {
+    let calls = [
+        Call::Commit(far_and_near(alloc)?),
+        Call::Scan(2),
+        Call::Get(255, b"a"),
+        Call::Scan(0),
+    ];
+    answers(alloc, keeper, &calls)
+}
+
 #[test]
 fn a_scan_lists_one_table_in_ascending_order(rt: HostRuntime) -> Result<(), Fail> {
-    let alloc = rt.alloc();
-    let mut keeper = SqlKeeper::in_memory(alloc, &mut 3)?;
-    keeper.commit(&far_and_near(alloc)?)?;
-    let rows = keeper.scan(2)?;
-    let wanted: [(&[u8], &[u8]); 4] = [
-        (b"", b"empty"),
-        (b"a", b""),
-        (b"ab", b"three"),
-        (b"b", b"two"),
-    ];
-    assert!(rt; are(rows.as_slice(), &wanted));
-    let far = keeper.get(255, b"a")?;
-    assert!(rt; far.is_some());
-    let none = keeper.scan(0)?;
-    assert_eq!(rt; none.len(), 0);
-    assert_eq!(rt; keeper.looked(), 7);
-    assert_eq!(rt; keeper.faults(), 3);
+    let mut keeper = SqlKeeper::in_memory(rt.alloc(), &mut 3)?;
+    let told = far_and_near_told(rt.alloc(), &mut keeper)?;
+    assert!(rt; told.as_str() == "kept\n=empty a= ab=three b=two \nfar\n\n");
+    assert!(rt; keeper.looked() == 7 && keeper.faults() == 3);
     Ok(())
 }

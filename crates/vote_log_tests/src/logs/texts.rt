@@ -1,8 +1,10 @@
 //! Texts of records, and heads, whose values were computed outside, by a program of its own.
 
-ghost use Rattle.std.specs.Prelude.{◌≤◌};
+ghost use Rattle.std.specs.Prelude.{◌≤◌, length};
 
 use super::*;
+
+const HOUSE: Id = Id([9; 32]);
 
 /// The head of the empty log of the house 9, 9, ...
 const FIRST_HEAD: [u8; 32] = [
@@ -26,52 +28,90 @@ fn text(kind: u8, num: u8) -> [u8; 35] {
     text
 }
 
-#[test]
-fn records_go_through_their_texts(rt: HostRuntime) {
-    assert_eq!(rt; record_text(&start(2)), text(1, 2));
-    assert_eq!(rt; record_text(&commit(0)), text(2, 0));
-    assert_eq!(rt; record_text(&abort(15)), text(3, 15));
-    assert_eq!(rt; record_at(&text(1, 16), 0), Ok(start(16)));
-    assert_eq!(rt; record_at(&text(2, 15), 0), Ok(commit(15)));
-    assert_eq!(rt; record_at(&text(3, 0), 0), Ok(abort(0)));
-    let mut longer = [7; 40];
-    longer[3..38].copy_from_slice(&text(2, 1));
-    assert_eq!(rt; record_at(&longer, 3), Ok(commit(1)));
+/// Whether the record has the text that begins with these bytes.
+fn writes(rec: &LogRecord, kind: u8, num: u8) -> bool {
+    record_text(rec) == text(kind, num)
 }
 
-/// What stands at the begin of the first bytes of such a text.
-fn read_cut(kind: u8, num: u8, len: usize) -> Result<LogRecord, RecordFault>
+/// Whether the record stands there.
+fn reads(bytes: &[u8], at: u32, rec: &LogRecord) -> bool
+    requires { length bytes.now ≤ 40 }
+{
+    match record_at(bytes, at) {
+        Ok(read) => read == *rec,
+        Err(_) => false,
+    }
+}
+
+#[test]
+fn records_have_their_texts(rt: HostRuntime) {
+    assert!(rt; writes(&start(2), 1, 2));
+    assert!(rt; writes(&commit(0), 2, 0));
+    assert!(rt; writes(&abort(15), 3, 15));
+}
+
+#[test]
+fn records_are_read_from_their_texts(rt: HostRuntime) {
+    assert!(rt; reads(&text(1, 16), 0, &start(16)));
+    assert!(rt; reads(&text(2, 15), 0, &commit(15)));
+    assert!(rt; reads(&text(3, 0), 0, &abort(0)));
+}
+
+#[test]
+fn a_record_is_read_among_other_bytes(rt: HostRuntime) {
+    let mut longer = [7; 40];
+    longer[3..38].copy_from_slice(&text(2, 1));
+    assert!(rt; reads(&longer, 3, &commit(1)));
+}
+
+/// Whether the first field at fault of the first bytes of such a text begins there.
+fn breaks_at(kind: u8, num: u8, len: usize, at: u32) -> bool
     requires { len ≤ 35 }
 {
-    record_at(&text(kind, num)[..len], 0)
+    match record_at(&text(kind, num)[..len], 0) {
+        Ok(_) => false,
+        Err(fault) => fault.at == at,
+    }
 }
 
 #[test]
 fn a_field_out_of_range_is_named(rt: HostRuntime) {
-    assert_eq!(rt; read_cut(0, 2, 35), Err(RecordFault { at: 0 }));
-    assert_eq!(rt; read_cut(4, 2, 35), Err(RecordFault { at: 0 }));
-    assert_eq!(rt; read_cut(1, 1, 35), Err(RecordFault { at: 1 }));
-    assert_eq!(rt; read_cut(1, 17, 35), Err(RecordFault { at: 1 }));
-    assert_eq!(rt; read_cut(2, 16, 35), Err(RecordFault { at: 1 }));
-    assert_eq!(rt; read_cut(3, 16, 35), Err(RecordFault { at: 1 }));
+    for (kind, num, at) in [
+        (0, 2, 0),
+        (4, 2, 0),
+        (1, 1, 1),
+        (1, 17, 1),
+        (2, 16, 1),
+        (3, 16, 1),
+    ] {
+        assert!(rt; breaks_at(kind, num, 35, at), "at {kind} {num}");
+    }
 }
 
 #[test]
 fn a_field_that_is_cut_is_named(rt: HostRuntime) {
-    assert_eq!(rt; read_cut(1, 2, 34), Err(RecordFault { at: 3 }));
-    assert_eq!(rt; read_cut(1, 2, 2), Err(RecordFault { at: 1 }));
-    assert_eq!(rt; read_cut(1, 2, 0), Err(RecordFault { at: 0 }));
-    assert_eq!(rt; record_at(&text(1, 2), 40), Err(RecordFault { at: 40 }));
+    assert!(rt; breaks_at(1, 2, 34, 3));
+    assert!(rt; breaks_at(1, 2, 2, 1));
+    assert!(rt; breaks_at(1, 2, 0, 0));
+}
+
+#[test]
+fn nothing_stands_behind_the_bytes(rt: HostRuntime) {
+    let fault = record_at(&text(1, 2), 40).err();
+    assert!(rt; fault == Some(RecordFault { at: 40 }));
 }
 
 #[test]
 fn heads_of_a_house(rt: HostRuntime) {
-    let house = Id([9; 32]);
-    assert_eq!(rt; head_of(&house, &[]), Id(FIRST_HEAD));
+    assert!(rt; head_of(&HOUSE, &[]) == Id(FIRST_HEAD));
     let recs = [start(2), commit(0), abort(1)];
-    assert_eq!(rt; head_of(&house, &recs), Id(THIRD_HEAD));
-    assert_eq!(rt; first_head(&house), Id(FIRST_HEAD));
-    let first = head_onward(&first_head(&house), &[start(2)]);
-    let third = head_onward(&first, &[commit(0), abort(1)]);
-    assert_eq!(rt; third, Id(THIRD_HEAD));
+    assert!(rt; head_of(&HOUSE, &recs) == Id(THIRD_HEAD));
+}
+
+#[test]
+fn a_head_goes_onward(rt: HostRuntime) {
+    let empty = first_head(&HOUSE);
+    assert!(rt; empty == Id(FIRST_HEAD));
+    let first = head_onward(&empty, &[start(2)]);
+    assert!(rt; head_onward(&first, &[commit(0), abort(1)]) == Id(THIRD_HEAD));
 }
