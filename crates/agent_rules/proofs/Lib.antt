@@ -1,0 +1,2 @@
+pub mod Escrowing
+pub mod Lending

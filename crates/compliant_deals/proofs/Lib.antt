@@ -1,0 +1,12 @@
+pub mod Places
+pub mod Accounts
+pub mod ByteTexts
+pub mod Reading
+pub mod Funded
+pub mod Stages
+pub mod Doing
+pub mod Keys
+pub mod Fronts
+pub mod Seen
+pub mod Decided
+pub mod Planned

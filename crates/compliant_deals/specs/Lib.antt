@@ -1,0 +1,4 @@
+pub mod Parts
+pub mod Complying
+pub mod Seeing
+pub mod CommitLogs

@@ -1,0 +1,5 @@
+pub mod Dealing
+pub mod Signing
+pub mod Running
+pub mod Meeting
+pub mod Forging
