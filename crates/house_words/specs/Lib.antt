@@ -1,0 +1,4 @@
+pub mod Spelled
+pub mod Tails
+pub mod WordKinds
+pub mod Keywords
