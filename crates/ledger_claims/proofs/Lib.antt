@@ -1,0 +1,12 @@
+pub mod OwnedRows
+pub mod Owners
+pub mod OwnerParties
+pub mod Looping
+pub mod PayeesRead
+pub mod SettlementPart
+pub mod SettlementStands
+pub mod SettledFew
+pub mod SettleCalls
+pub mod ClaimCalls
+pub mod ClaimSteps
+pub mod Accepting
