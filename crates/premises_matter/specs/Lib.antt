@@ -1,0 +1,2 @@
+pub mod Misled
+pub mod Torn
