@@ -39,7 +39,7 @@ pub fn one_key_matters()
 
 /// An agent that commits on amounts alone, before it has made its moves, can be paid less than its
 /// due. The deal is open, and the party owns its due if it commits; then its own transfer is
-/// accepted, and a commit pays it nothing.
+/// accepted, and a commit pays it less.
 pub fn moves_matter()
     ensures seen { (deal : DealTold) (ledger asset : List ℕ) (amount : ℕ) (rows : List Row)
         (entries : List Entry) (q : ℕ) → IsDeal deal → IsSpellable deal →

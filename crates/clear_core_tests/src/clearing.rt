@@ -1,4 +1,4 @@
-ghost use Rattle.std.specs.Prelude.{◌≤◌, length, IfOk};
+ghost use Rattle.std.specs.Prelude.{◌≤◌, ◌<◌, length, IfOk};
 
 use clear_core::{Limit, PlanAct, Terms, check_terms, clearing_text, due, need, plan, turns};
 use deal_core::{Deal, read_deal};
@@ -48,35 +48,58 @@ fn name(text: &str) -> Result<Name, BaseFault> {
     Name::from_bytes(text.as_bytes())
 }
 
+/// What the party needs of the asset there, what it is due of it, and how many turns it has there.
+fn sums(alloc: Global, deal: &Deal, party: u16, ledger: &str, asset: &str) -> Result<String, Fail>
+    requires { party < length deal.now.parties }
+{
+    let (ledger, asset) = (name(ledger)?, name(asset)?);
+    let needed = need(deal, party, &ledger, &asset);
+    let owed = due(deal, party, &ledger, &asset);
+    let turns = turns(deal, party, &ledger);
+    Ok(format!(in alloc; "needs {needed} due {owed} turns {turns}")?)
+}
+
 #[test]
 fn a_ring_needs_its_first_payment(rt: HostRuntime) -> Result<(), Fail> {
-    let deal = deal_of(rt.alloc(), RING)?;
-    let bank = name("bank")?;
-    let gold = name("gold")?;
-    assert_eq!(rt; need(&deal, 0, &bank, &gold), 5);
-    assert_eq!(rt; due(&deal, 0, &bank, &gold), 5);
-    assert_eq!(rt; need(&deal, 1, &bank, &gold), 0);
-    assert_eq!(rt; due(&deal, 1, &bank, &gold), 0);
-    assert_eq!(rt; turns(&deal, 2, &bank), 1);
+    let alloc = rt.alloc();
+    let deal = deal_of(alloc, RING)?;
+    let first = sums(alloc, &deal, 0, "bank", "gold")?;
+    assert!(rt; first.as_str() == "needs 5 due 5 turns 1");
+    let second = sums(alloc, &deal, 1, "bank", "gold")?;
+    assert!(rt; second.as_str() == "needs 0 due 0 turns 1");
     Ok(())
 }
 
 #[test]
 fn a_broker_needs_nothing(rt: HostRuntime) -> Result<(), Fail> {
-    let deal = deal_of(rt.alloc(), BROKER)?;
-    let coins = name("coins")?;
-    let coin = name("coin")?;
-    let tickets = name("tickets")?;
-    let ticket = name("ticket")?;
-    assert_eq!(rt; need(&deal, 0, &coins, &coin), 0);
-    assert_eq!(rt; due(&deal, 0, &coins, &coin), 1);
-    assert_eq!(rt; need(&deal, 0, &tickets, &ticket), 0);
-    assert_eq!(rt; due(&deal, 0, &tickets, &ticket), 0);
-    assert_eq!(rt; need(&deal, 1, &tickets, &ticket), 1);
-    assert_eq!(rt; due(&deal, 1, &coins, &coin), 107);
-    assert_eq!(rt; need(&deal, 2, &coins, &coin), 108);
-    assert_eq!(rt; due(&deal, 2, &tickets, &ticket), 1);
-    assert_eq!(rt; turns(&deal, 2, &coins), 2);
+    let alloc = rt.alloc();
+    let deal = deal_of(alloc, BROKER)?;
+    let coins = sums(alloc, &deal, 0, "coins", "coin")?;
+    assert!(rt; coins.as_str() == "needs 0 due 1 turns 1");
+    let tickets = sums(alloc, &deal, 0, "tickets", "ticket")?;
+    assert!(rt; tickets.as_str() == "needs 0 due 0 turns 1");
+    Ok(())
+}
+
+#[test]
+fn a_seller_needs_what_it_sells(rt: HostRuntime) -> Result<(), Fail> {
+    let alloc = rt.alloc();
+    let deal = deal_of(alloc, BROKER)?;
+    let coins = sums(alloc, &deal, 1, "coins", "coin")?;
+    assert!(rt; coins.as_str() == "needs 0 due 107 turns 0");
+    let tickets = sums(alloc, &deal, 1, "tickets", "ticket")?;
+    assert!(rt; tickets.as_str() == "needs 1 due 0 turns 1");
+    Ok(())
+}
+
+#[test]
+fn a_buyer_needs_what_it_pays(rt: HostRuntime) -> Result<(), Fail> {
+    let alloc = rt.alloc();
+    let deal = deal_of(alloc, BROKER)?;
+    let coins = sums(alloc, &deal, 2, "coins", "coin")?;
+    assert!(rt; coins.as_str() == "needs 108 due 0 turns 2");
+    let tickets = sums(alloc, &deal, 2, "tickets", "ticket")?;
+    assert!(rt; tickets.as_str() == "needs 0 due 1 turns 1");
     Ok(())
 }
 
@@ -158,20 +181,20 @@ fn checked(alloc: Global, gives: &[u64], gets: &[u64]) -> Result<String, Fail> {
 #[test]
 fn terms_limits(rt: HostRuntime) -> Result<(), Fail> {
     let alloc = rt.alloc();
-    assert_eq!(rt;
-        checked(alloc, &[4], &[])?.as_str(),
-        "1 GivesMore bank gold 5 4"
-    );
-    assert_eq!(rt;
-        checked(alloc, &[], &[6])?.as_str(),
-        "1 GivesMore bank gold 5 0"
-    );
-    assert_eq!(rt;
-        checked(alloc, &[5], &[6])?.as_str(),
-        "2 GetsLess bank gold 5 6"
-    );
-    assert_eq!(rt; checked(alloc, &[5], &[5])?.as_str(), "kept");
-    assert_eq!(rt; checked(alloc, &[2, 3], &[5, 5, 1])?.as_str(), "kept");
+    let more = checked(alloc, &[4], &[])?;
+    assert!(rt; more.as_str() == "1 GivesMore bank gold 5 4");
+    let unnamed = checked(alloc, &[], &[6])?;
+    assert!(rt; unnamed.as_str() == "1 GivesMore bank gold 5 0");
+    let less = checked(alloc, &[5], &[6])?;
+    assert!(rt; less.as_str() == "2 GetsLess bank gold 5 6");
+    Ok(())
+}
+
+#[test]
+fn terms_within_their_limits_are_kept(rt: HostRuntime) -> Result<(), Fail> {
+    let alloc = rt.alloc();
+    assert!(rt; checked(alloc, &[5], &[5])?.as_str() == "kept");
+    assert!(rt; checked(alloc, &[2, 3], &[5, 5, 1])?.as_str() == "kept");
     Ok(())
 }
 

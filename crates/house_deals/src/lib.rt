@@ -1,5 +1,5 @@
-//! The deals that a house declares: their parties, their steps by the parties' indices, which step may
-//! stand behind others, and whether a deal is whole.
+//! The deals that a house declares: their parties, their steps by the parties' indices, which step
+//! may stand behind others, and whether a deal is whole.
 //!
 //! - `names`: names in lists.
 //! - `deal_steps`: the parties and steps of a deal.

@@ -5,8 +5,8 @@
 //! - `forged_text`, `record_line`, `building`: what its script builds.
 //! - `event`: what happens in it.
 //! - `house_line`: one line.
-//! - `holder`, `said_declaration`, `said_text`, `said_building`, `said_event`, `reading`: reading it
-//!   from the line's words.
+//! - `holder`, `said_declaration`, `said_text`, `said_building`, `said_event`, `reading`: reading
+//!   it from the line's words.
 #![tactic(auto)]
 
 pub mod building;

@@ -7,8 +7,8 @@ use Rattle.dh_base.specs.Spelled.{hex_text}
 use Rattle.line_text.specs.Numbers.{number_of}
 use Rattle.script_lines.specs.WordLists.{SpellsNumber}
 
--- A word of a line: a text as it stands, a name, a number of 32 or of 64 bits, which is none where it
--- exceeds them, an amount, or bytes.
+-- A word of a line: a text as it stands, a name, a number of 32 or of 64 bits, which is none where
+-- it exceeds them, an amount, or bytes.
 pub data LineWord : Type 0 where
   Fixed : (text : List ℕ) → LineWord
   Named : (name : List ℕ) → LineWord
@@ -17,8 +17,8 @@ pub data LineWord : Type 0 where
   Amount : (amount : ℕ) → LineWord
   Hexadecimal : (bytes : List ℕ) → LineWord
 
--- The word is this number of 64 bits in decimal. A number that exceeds its field is any of 2 ^ 64 or
--- more.
+-- The word is this number of 64 bits in decimal. A number that exceeds its field is any of 2 ^ 64
+-- or more.
 abbrev pub SpellsLongNumber : Option ℕ → List ℕ → Type 0
 SpellsLongNumber (Some n) word = (n < 2 ^ 64) × (word ≡ decimal n)
 SpellsLongNumber None word = (n : ℕ) × (2 ^ 64 ≤ n) × (number_of word ≡ Some n)
