@@ -10,3 +10,4 @@ pub mod Parties
 pub mod Statements
 pub mod Owning
 pub mod Standings
+pub mod Claimed

@@ -130,7 +130,7 @@ module _ {K : Type 0} (opened : Opened) (entries : List Entry) (old : LedgerTold
       (record { name = at_old.name; house = at_old.house; length_is = number' ∙ sym next.2; acts_is = ap (λ (n : ℕ). n + 1) acts' ∙ sym next.1 })
 
 -- where both maps are told
-both_told : (before after : Known) (P : Type 0) → ((tables later : Tables) → before.tables ≡ Some tables → after.tables ≡ Some later → P) → WhereTold before after (λ tables. P)
+pub both_told : (before after : Known) (P : Type 0) → ((tables later : Tables) → before.tables ≡ Some tables → after.tables ≡ Some later → P) → WhereTold before after (λ tables. P)
 both_told before after P holds = go after.tables refl before.tables refl
   where
     go : (a : Option Tables) → after.tables ≡ a → (b : Option Tables) → before.tables ≡ b → IfSome a (λ _. IfSome b (λ _. P))

@@ -1,5 +1,6 @@
 -- What a ledger is seen as, and where it stands in a history.
 use Rattle.std.specs.Prelude.{ℕ, ◌≡◌, List, length}
+use Rattle.cert_core.specs.Sets.{SetTold}
 use Rattle.dh_base.specs.declared.id.Id.{Id}
 use Rattle.ledger_rows.specs.declared.entry.Entry.{Entry}
 use Rattle.ledger_acts.specs.LedgerStep.{Opened, acts_of}
@@ -9,6 +10,7 @@ pub record LedgerTold (K : Type 0) : Type 0 where
   pub keeper : K
   pub name : List ℕ
   pub house : Id
+  pub genesis : SetTold
   pub entries : ℕ
   pub acts : ℕ
 

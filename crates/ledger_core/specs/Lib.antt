@@ -7,3 +7,4 @@ pub mod Openings
 pub mod FormRows
 pub mod Opens
 pub mod Statements
+pub mod Claims

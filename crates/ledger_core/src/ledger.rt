@@ -14,7 +14,10 @@ ghost use Rattle.ledger_rows.specs.RowReading.{LacksForm, deal_said};
 ghost use Rattle.ledger_rows.specs.Scanning.{scan_refusal, amount_at, some_of, AreInOrder, AreAmounts};
 ghost use Rattle.cert_core.specs.Sets.{id_of_set};
 ghost use Rattle.ledger_acts.specs.Steps.{SubmitsByRows};
+ghost use Rattle.claim_core.specs.Limits.{IsSmall};
+ghost use Rattle.ledger_claims.specs.Claiming.{ClaimsByRows, AcceptsClaim};
 ghost use Rattle.ledger_core.specs.AskFaults.{of_ask_fault};
+ghost use Rattle.ledger_core.specs.Claims.{ClaimsFrom, next_number, with_reply};
 ghost use Rattle.ledger_core.specs.Openings.{opened_by};
 ghost use Rattle.ledger_core.specs.Opens.{OpensByRows, OpensKept, OpensEmpty, OpenCause, counts_of, kept_by};
 ghost use Rattle.ledger_core.specs.Questions.{TellsBy, unknown_deal, settlement_refusal, outcome_of, rows_beside, AskCause};
@@ -28,22 +31,25 @@ use crate::opening::Opening;
 use crate::opens::open_over;
 use crate::refused::Refused;
 use act_text::{HeldRow, Statement};
-use cert_core::set_id;
+use cert_core::{Set, set_id};
+use claim_core::Claim;
 use dh_base::{Id, List, Name, Outcome};
 use keeper_core::{Arm, Keeper, MemKeeper, StoreFault};
 use key_ring::Envelope;
 use ledger_acts::{LedgerFault, LedgerId, Place, submit};
+use ledger_claims::{ClaimReply, ShowFault, claim};
 use std::alloc::Global;
 use std::marker::Model;
 
 /// A ledger over a keeper, in which it keeps all but two counts. A contract sees the keeper, the
-/// name, the house, and how many entries and acts there are.
+/// name, the house, the validators of epoch 0, and how many entries and acts there are.
 #[derive(Drop)]
 pub struct Ledger<K> {
     alloc: Global,
     keeper: K,
     name: Name,
     house: Id,
+    genesis: Set,
     entries: u64,
     acts: u32,
 }
@@ -57,6 +63,7 @@ impl<K> Model for Ledger<K> {
       keeper = l.keeper;
       name = l.name;
       house = l.house;
+      genesis = l.genesis;
       entries = l.entries;
       acts = l.acts;
     } };
@@ -77,7 +84,8 @@ impl<K: Keeper> Ledger<K> {
         ensures cause { IfErr result (λ refused. OpenCause (K.known refused.keeper).tables
             refused.fault) }
         ensures named { IfOk result (λ ledger. (ledger.name ≡ opening.now.name)
-            × (ledger.house ≡ id_of_set opening.now.genesis)) }
+            × (ledger.house ≡ id_of_set opening.now.genesis)
+            × (ledger.genesis ≡ opening.now.genesis)) }
         // A keeper that has stopped, or is to fail next, opens no ledger.
         ensures fails { FailsNext (K.known keeper) → IsErr result }
     {
@@ -88,6 +96,7 @@ impl<K: Keeper> Ledger<K> {
                 keeper,
                 name: opening.name,
                 house: set_id(&opening.genesis),
+                genesis: opening.genesis.copied(),
                 entries: counts.entries,
                 acts: counts.acts,
             }),
@@ -128,6 +137,7 @@ impl<K: Keeper> Ledger<K> {
         ensures repeated { at ≤ self.old.entries → self.new ≡ self.old }
         ensures named { (self.new.name ≡ self.old.name) × (self.new.house ≡ self.old.house)
             × (self.new.keeper ≡ self.old.keeper) }
+        ensures genesis { self.new.genesis ≡ self.old.genesis }
     {
         if self.entries < at {
             self.entries = at;
@@ -144,7 +154,8 @@ impl<K: Keeper> Ledger<K> {
         // Whatever the tables stand for.
         ensures rows { SubmitsByRows env.now (number_in result)
             (K.known self.old.keeper) (K.known self.new.keeper) }
-        ensures named { (self.new.name ≡ self.old.name) × (self.new.house ≡ self.old.house) }
+        ensures named { (self.new.name ≡ self.old.name) × (self.new.house ≡ self.old.house)
+            × (self.new.genesis ≡ self.old.genesis) }
         ensures rest { OnErr result (self.new ≡ record self.old { keeper = self.new.keeper }) }
         ensures fails { FailsNext (K.known self.old.keeper) → IsErr result }
     {
@@ -157,6 +168,65 @@ impl<K: Keeper> Ledger<K> {
             Ok(at) => {
                 self.note_act(at);
                 Ok(ActReply::Done { at })
+            }
+            Err(fault) => Err(fault),
+        }
+    }
+
+    /// The number of the next entry.
+    fn next_number(&self) -> u64
+        ensures { result ≡ next_number self.now }
+    {
+        self.entries.saturating_add(1)
+    }
+
+    /// The validators of epoch 0.
+    fn first_set(&self) -> Set
+        ensures { result ≡ self.now.genesis }
+    {
+        self.genesis.copied()
+    }
+
+    /// Notes that a claim was replied so. A settlement is one entry more.
+    fn note_reply(&mut self, reply: &ClaimReply)
+        ensures reply { self.new ≡ with_reply self.old reply.now }
+        ensures named { (self.new.name ≡ self.old.name) × (self.new.house ≡ self.old.house)
+            × (self.new.keeper ≡ self.old.keeper) }
+        ensures genesis { self.new.genesis ≡ self.old.genesis }
+    {
+        match reply {
+            ClaimReply::Settled { .. } => self.entries = self.entries.saturating_add(1),
+            ClaimReply::Already { .. } => {}
+        }
+    }
+
+    /// Settles a deal that is registered and hasn't ended, if the claim certifies records that
+    /// decide it: one entry, one commit. A deal that has ended stays as it is, whatever the claim
+    /// is, and is answered by how it ended.
+    pub fn claim(&mut self, deal: &Id, shown: &Claim) -> Result<ClaimReply, ShowFault>
+        requires first { self.old.genesis.epoch ≡ 0 }
+        requires small { IsSmall shown.now }
+        ensures step { ClaimsFrom self.old self.new deal.now shown.now result
+            (K.known self.old.keeper) (K.known self.new.keeper) }
+        // What decides an open deal settles it, if the keeper doesn't fail and there is memory.
+        ensures accepts { AcceptsClaim self.old.genesis deal.now shown.now result
+            (K.known self.old.keeper) (K.known self.new.keeper) }
+        // By the tables, whatever they are.
+        ensures rows { ClaimsByRows self.old.genesis (next_number self.old) deal.now shown.now
+            result (K.known self.old.keeper) (K.known self.new.keeper) }
+        ensures named { (self.new.name ≡ self.old.name) × (self.new.house ≡ self.old.house)
+            × (self.new.genesis ≡ self.old.genesis) }
+        ensures rest { OnErr result (self.new ≡ record self.old { keeper = self.new.keeper }) }
+        ensures fails { FailsNext (K.known self.old.keeper)
+            → IsErrOf result (ShowFault.Store StoreFault.Keeper) }
+    {
+        wide(deal);
+        let number = self.next_number();
+        let genesis = self.first_set();
+        match claim(self.alloc, &mut self.keeper, &genesis, number, deal, shown) {
+            Ok(reply) => {
+                self.note_reply(&reply);
+                Ok(reply)
             }
             Err(fault) => Err(fault),
         }

@@ -22,6 +22,7 @@ pub use act_reply::ActReply;
 pub use ask_fault::AskFault;
 pub use ledger::Ledger;
 pub use ledger_acts::LedgerFault;
+pub use ledger_claims::{ClaimReply, ShowFault};
 pub use open_fault::OpenFault;
 pub use opening::{OpenRow, Opening};
 pub use refused::Refused;

@@ -32,7 +32,8 @@ pub fn open<S: Alter>(
     ensures cause { IfErr result (λ refused. OpenCause (known_of refused.keeper).tables
         refused.fault) }
     ensures named { IfOk result (λ ledger. (ledger.name ≡ opening.now.name)
-        × (ledger.house ≡ id_of_set opening.now.genesis)) }
+        × (ledger.house ≡ id_of_set opening.now.genesis)
+        × (ledger.genesis ≡ opening.now.genesis)) }
     ensures fails { FailsNext (known_of keeper) → IsErr result }
 {
     Ledger::open(alloc, keeper, opening)
