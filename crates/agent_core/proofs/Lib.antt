@@ -1,0 +1,17 @@
+pub mod Doing
+pub mod Refusing
+pub mod Wanting
+pub mod Counting
+pub mod Signed
+pub mod Backing
+pub mod Calls
+pub mod Hears
+pub mod Offering
+pub mod Joined
+pub mod KeptDeals
+pub mod Reading
+pub mod Opening
+pub mod Apart
+pub mod Reopened
+pub mod Opened
+pub mod Loaded
