@@ -1,0 +1,4 @@
+pub mod Bindings
+pub mod Flipping
+pub mod Messages
+pub mod Builds

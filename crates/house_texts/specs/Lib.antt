@@ -1,0 +1,4 @@
+pub mod Genesis
+pub mod Deals
+pub mod Openings
+pub mod Settings
