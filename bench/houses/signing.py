@@ -1,5 +1,6 @@
 """One-time signatures of RFC 8554 (LMOTS_SHA256_N32_W4), holders made from names, and envelopes."""
 
+import functools
 import hashlib
 import struct
 from collections import namedtuple
@@ -26,19 +27,18 @@ def digit(text, place):
     return text[place // 2] >> 4 if place % 2 == 0 else text[place // 2] & 15
 
 
-class Keys:
-    """The one-time keys of a seed and an ident."""
-
-    def __init__(self, seed, ident):
-        self.seed, self.ident = seed, ident
+class Keys(namedtuple("Keys", "seed ident")):
+    """The one-time keys of a seed and an ident. What they give is kept, as many houses share names."""
 
     def secret(self, q, place):
         return digest(self.ident + number(q, 4) + number(place, 2) + b"\xff" + self.seed)
 
+    @functools.lru_cache(maxsize=65536)
     def public(self, q):
         ends = (chain(self.ident, q, place, 0, 15, self.secret(q, place)) for place in range(CHAINS))
         return hash_of_ends(self.ident, q, ends)
 
+    @functools.lru_cache(maxsize=4096)
     def sign(self, q, message):
         randomizer = self.secret(q, 0xFFFD)
         digits = digits_of(self.ident, q, randomizer, message)
@@ -50,8 +50,9 @@ class Keys:
 
 
 def chain(ident, q, place, first, last, value):
+    stem = ident + number(q, 4) + number(place, 2)
     for step in range(first, last):
-        value = digest(ident + number(q, 4) + number(place, 2) + number(step, 1) + value)
+        value = digest(stem + number(step, 1) + value)
     return value
 
 
@@ -98,17 +99,9 @@ class Holder:
         return Envelope(self.ring, q, self.keys.sign(q, message), message)
 
 
-_checked = {}
-
-
+@functools.lru_cache(maxsize=4096)
 def check(envelope):
     """What an envelope says and no fault, or nothing and its fault. Its ring is a holder's."""
-    if envelope not in _checked:
-        _checked[envelope] = _check(envelope)
-    return _checked[envelope]
-
-
-def _check(envelope):
     (size,) = struct.unpack(">H", envelope.ring[24:26])
     if envelope.q >= size:
         return None, f"3 KeyOutside {envelope.q} {size}"
