@@ -345,15 +345,16 @@ class Judge:
         books = self.books[ledger]
         if reply.startswith("statement "):
             ask(reply == books.statement(deal, party), f"the statement is {reply}")
-            self.statements[name] = (ledger, deal, party, int(reply.split(" ")[1]))
+            self.statements[name] = (ledger, deal, party, reply)
 
     def _on_hear(self, reply, _, party, name):
-        ledger, deal, of, at = self.statements[name]
+        ledger, deal, of, told = self.statements[name]
+        at = int(told.split(" ")[1])
         word, *rest = reply.split(" ")
-        before = self.heard.get((party, ledger, deal), 0)
+        before = int(self.heard.get((party, ledger, deal), "statement 0").split(" ")[1])
         if word == "kept":
             ask(of == party and at >= before, f"{party} keeps a statement of {of} at {at}")
-            self.heard[party, ledger, deal] = at
+            self.heard[party, ledger, deal] = told
         elif word == "older":
             ask(rest == [str(before)] and at < before, f"{before} is not older than {at}")
 
@@ -394,7 +395,26 @@ class Judge:
         if reply == "given" or was_kept:
             agent = self._agent(party, deal)
             ask(agent.issued == len(agent.plan), f"{party} commits before its plan is done")
+            if not agent.may_have_committed:
+                self._ask_seen(party, deal)
             agent.may_have_committed = True
+
+    def _ask_seen(self, party, name):
+        """Each ledger told the party that it has made its moves and holds what it is owed."""
+        deal = self.script.deals[name]
+        for ledger, asset in deal.pairs():
+            due = deal.due(party, ledger, asset)
+            if due > 0:
+                _, _, _, moves, *rows, outcome = self._told(party, ledger, name)
+                made = sum(1 for step in deal.steps if (step[0], step[2]) == (party, ledger))
+                held = dict(zip(rows[::2], map(int, rows[1::2]))).get(asset, 0)
+                is_seen = int(moves) == made and held >= due and outcome == "open"
+                ask(is_seen, f"{party} commits to {name} and was told {moves} moves, {held} {asset}")
+
+    def _told(self, party, ledger, deal):
+        heard = self.heard.get((party, ledger, deal))
+        ask(heard, f"{party} commits to {deal} and heard nothing of {ledger}")
+        return heard.split(" ")
 
     def _on_prefix(self, reply, _, seat, length, envelope):
         if reply == "given":

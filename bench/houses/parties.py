@@ -136,7 +136,8 @@ class Deviating(Party):
             chance.shuffle(self.plan)
         if self.temper == "lazy":
             self.plan = self.plan[: chance.randint(0, len(self.plan))]
-        self.votes = {"hostile": ["abort", "commit", "abort"], "lazy": []}.get(self.temper, ["commit"])
+        votes = {"hostile": ["abort", "commit", "abort"], "lazy": chance.choice([[], ["commit"]])}
+        self.votes = votes.get(self.temper, ["commit"])
 
     def turn(self, _now):
         likely = self.stage.likely
