@@ -32,8 +32,8 @@ pub fn statements_matter()
     compliant_deal();
 }
 
-/// Where more seats deviate than a set allows, two ledgers can settle a deal differently. The one
-/// seat signs two lists of records, of which neither begins the other; all else is as it must be.
+/// Where of two certified lists neither begins the other, two ledgers can settle a deal
+/// differently. All else is as it must be. The set has one seat, whose key has signed both lists.
 pub fn one_log_matters()
     ensures opens { IsOpening two_ledgers }
     ensures runs { IsRun two_ledgers torn_run }
